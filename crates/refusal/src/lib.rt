@@ -1,0 +1,52 @@
+// The numbers that refuse. A call that cannot be answered says why by one of these, and nothing that was
+// lent to it has changed. Which of them a call gives, and in which order it looks, is said where the call is.
+ghost use mathlib.Core.Path.{_≡_};
+ghost use Rattle.refusal.specs.Refusal.{numberOf};
+
+// The table's eighteen rows, by the names it gives them.
+pub enum Refusal {
+    Short,
+    Version,
+    Type,
+    Length,
+    Stamp,
+    Tlv,
+    WrBad,
+    Port,
+    Domain,
+    Own,
+    Backward,
+    Stale,
+    Full,
+    Range,
+    Unranked,
+    Room,
+    Many,
+    Field,
+}
+
+// The row's number, 1 to 18. Hosts written in C are handed this, so 0 is left for "done".
+pub fn number(x: Refusal) -> u8
+    ensures { λ r. ⌜ r ≡ numberOf x ⌝ }
+{
+    match x {
+        Refusal::Short => 1,
+        Refusal::Version => 2,
+        Refusal::Type => 3,
+        Refusal::Length => 4,
+        Refusal::Stamp => 5,
+        Refusal::Tlv => 6,
+        Refusal::WrBad => 7,
+        Refusal::Port => 8,
+        Refusal::Domain => 9,
+        Refusal::Own => 10,
+        Refusal::Backward => 11,
+        Refusal::Stale => 12,
+        Refusal::Full => 13,
+        Refusal::Range => 14,
+        Refusal::Unranked => 15,
+        Refusal::Room => 16,
+        Refusal::Many => 17,
+        Refusal::Field => 18,
+    }
+}
