@@ -2,6 +2,8 @@
 use Prim.Native.Nat.{ℕ}
 use Rattle.refusal.specs.declared.Refusal.{Refusal}
 use Rattle.refusal.specs.declared.Refusal.the-variants.{Short, Version, «Type», Length, Stamp, Tlv, WrBad, Port, Domain, Own, Backward, Stale, Full, Range, Unranked, Room, Many, Field}
+use Rattle.refusal.specs.declared.Outcome.{Outcome}
+use Rattle.refusal.specs.declared.Outcome.the-variants.{Done, Refused}
 
 -- "| No. | Name | Given exactly when |"
 abbrev pub numberOf : Refusal → ℕ
@@ -23,3 +25,8 @@ numberOf Unranked = 15
 numberOf Room = 16
 numberOf Many = 17
 numberOf Field = 18
+
+-- 0 where the work is done, else the refusal's number
+abbrev pub codeOf : Outcome → ℕ
+codeOf Done = 0
+codeOf (Refused x) = numberOf x

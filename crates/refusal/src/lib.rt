@@ -1,7 +1,7 @@
 // The numbers that refuse. A call that cannot be answered says why by one of these, and nothing that was
 // lent to it has changed. Which of them a call gives, and in which order it looks, is said where the call is.
 ghost use mathlib.Core.Path.{_≡_};
-ghost use Rattle.refusal.specs.Refusal.{numberOf};
+ghost use Rattle.refusal.specs.Refusal.{numberOf, codeOf};
 
 // The table's eighteen rows, by the names it gives them.
 pub enum Refusal {
@@ -25,7 +25,7 @@ pub enum Refusal {
     Field,
 }
 
-// The row's number, 1 to 18. Hosts written in C are handed this, so 0 is left for "done".
+// The row's number, 1 to 18.
 pub fn number(x: Refusal) -> u8
     ensures { λ r. ⌜ r ≡ numberOf x ⌝ }
 {
@@ -48,5 +48,21 @@ pub fn number(x: Refusal) -> u8
         Refusal::Room => 16,
         Refusal::Many => 17,
         Refusal::Field => 18,
+    }
+}
+
+// What a call answers that either does its work or refuses.
+pub enum Outcome {
+    Done,
+    Refused(Refusal),
+}
+
+// 0 where the work is done, else the refusal's number: what a host written in C is handed.
+pub fn code(x: Outcome) -> u8
+    ensures { λ r. ⌜ r ≡ codeOf x ⌝ }
+{
+    match x {
+        Outcome::Done => 0,
+        Outcome::Refused(y) => number(y),
     }
 }
