@@ -1,0 +1,44 @@
+-- `held::u48_at` meets its contract: two octets, then four.
+use Rattle.octets.proofs.Laws.{halves}
+use borrow.Author.Needs.{needs}
+use Rattle.octets.proofs.held.u48_at.Statement.{statement}
+use Rattle.octets.proofs.held.u48_at.Tie as tie
+
+add-u32-at : tie.Need-add-u32-at
+add-u32-at c = search needs
+
+u32-at-requires : tie.Need-u32-at-requires
+u32-at-requires c κs = search needs
+
+cast-result : tie.Need-cast-result
+cast-result c = search needs
+
+u16-at-requires : tie.Need-u16-at-requires
+u16-at-requires c κs = search needs
+
+cast-result-2 : tie.Need-cast-result-2
+cast-result-2 c = search needs
+
+mul-result : tie.Need-mul-result
+mul-result c = search needs
+
+add-result : tie.Need-add-result
+add-result c = search needs
+
+returns : tie.Need-returns
+returns c =
+    let s = c .before .before .before in
+    halves 2 4 (s .args .s .now) (s .args .at) (c .before .u32-at .ensures) (c .u16-at .ensures)
+
+pub u48-at-spec : {M : Type 1} → statement M
+u48-at-spec =
+    tie.close
+    (tie.spec
+    add-u32-at
+    u32-at-requires
+    cast-result
+    u16-at-requires
+    cast-result-2
+    mul-result
+    add-result
+    returns)

@@ -1,0 +1,71 @@
+-- `walk::data_of` meets its contract: the TLV that was found is whole, so its data lie in the tail.
+use Prim.Native.Nat.{_+_, _≤_}
+use native.Mathlib.Omega.{arith}
+use native.Mathlib.Nat.{add-sub-cancel-left}
+use borrow.Author.Tests.{lt-ltb, le-ltb}
+use lib.ListN.{length}
+use Rattle.tlv.specs.Walk.{sizeAt}
+use Rattle.tlv.specs.declared.walk.Sought.the-variants.{OfType}
+use Rattle.tlv.proofs.FaultLaws.{place-found}
+use borrow.Author.Needs.{needs}
+use Rattle.tlv.proofs.walk.data_of.Statement.{statement}
+use Rattle.tlv.proofs.walk.data_of.Tie as tie
+
+-- what was found is whole
+found : (c : tie.Then1) → let t = c .before .before .before .args .t .now in
+    c .before .place .result + 4 + sizeAt t (c .before .place .result) ≤ length t
+found c = place-found (OfType (c .before .before .before .args .kind)) _ (c .before .place .ensures) (c .if1 .taken) .whole .fits
+
+place-requires : tie.Need-place-requires
+place-requires c κs = search needs
+
+add-a : tie.Need-add-a
+add-a c = search needs
+
+add-u16-at : tie.Need-add-u16-at
+add-u16-at c = search needs
+
+u16-at-requires : tie.Need-u16-at-requires
+u16-at-requires c κs = let f = found c in omega arith
+
+cast-n : tie.Need-cast-n
+cast-n c = search needs
+
+add-result : tie.Need-add-result
+add-result c = search needs
+
+sub-result : tie.Need-sub-result
+sub-result c = search needs
+
+part-result-start : tie.Need-part-result-start
+part-result-start c = search needs
+
+part-result-end : tie.Need-part-result-end
+part-result-end c = let f = found (c .before) in omega arith
+
+slice-aggregate-result : tie.Need-slice-aggregate-result
+slice-aggregate-result c = search needs
+
+returns : tie.Need-returns
+returns c =
+    rw (← c .before .before .before .place .ensures, lt-ltb _ _ (c .before .before .if1 .taken), add-sub-cancel-left, c .before .u16-at .ensures)
+
+returns-2 : tie.Need-returns-2
+returns-2 c = rw (← c .before .before .place .ensures, le-ltb _ _ (c .before .if1 .left))
+
+pub data-of-spec : {M : Type 1} → statement M
+data-of-spec =
+    tie.close
+    (tie.spec
+    place-requires
+    add-a
+    add-u16-at
+    u16-at-requires
+    cast-n
+    add-result
+    sub-result
+    part-result-start
+    part-result-end
+    slice-aggregate-result
+    returns
+    returns-2)

@@ -1,0 +1,4 @@
+pub mod Walk
+pub mod Form
+pub mod Faults
+pub mod Wr

@@ -1,0 +1,139 @@
+// The walk over a tail.
+ghost use mathlib.Core.Path.{_≡_};
+ghost use Prim.Native.Nat.{_≤_};
+ghost use lib.ListN.{length};
+ghost use Rattle.tlv.specs.Walk.{nextOf, first, dataAt, Fits};
+ghost use Rattle.tlv.specs.Faults.{soughtAt, laterOf, faultOf, tailCheck, outcomeOf};
+use refusal::Outcome;
+use refusal::Refusal;
+
+// Where a TLV ends, or that no whole TLV of even length stands there.
+pub enum Next {
+    At(usize),
+    Bad,
+}
+
+// What a walk looks for: a TLV of a type, a suffix or a link message under a magic.
+pub enum Sought {
+    OfType(u16),
+    Suffix(u16),
+    Link(u16),
+}
+
+// What is wrong with a tail, and where: it breaks off into no whole TLV of even length, or a known WR message has
+// data of a wrong size.
+pub enum Fault {
+    Sound,
+    Broken(usize),
+    Misfit(usize),
+}
+
+fn step(t: &[u8], at: usize) -> Next
+    requires { ⌜ at ≤ length (now t) ⌝ }
+    ensures { λ r. ⌜ r ≡ nextOf (now (t .entry)) at ⌝ }
+{
+    if t.len() - at < 4 {
+        return Next::Bad;
+    }
+    let n = octets::held::u16_at(t, at + 2) as usize;
+    if n % 2 == 0 {
+        if n <= t.len() - at - 4 {
+            return Next::At(at + 4 + n);
+        }
+    }
+    Next::Bad
+}
+
+// Whether the TLV at `at`, which is whole, is what the walk looks for.
+fn is_sought(t: &[u8], at: usize, what: Sought) -> bool
+    requires { ⌜ Fits (now t) at ⌝ }
+    ensures { λ r. ⌜ r ≡ soughtAt what (now (t .entry)) at ⌝ }
+{
+    match what {
+        Sought::OfType(kind) => octets::held::u16_at(t, at) == kind,
+        Sought::Suffix(magic) => crate::form::is_suffix(t, at, magic),
+        Sought::Link(magic) => crate::form::is_link(t, at, magic),
+    }
+}
+
+// Where the first TLV stands that the walk looks for; the end of the tail where there is none.
+pub fn place(t: &[u8], what: Sought) -> usize
+    ensures { λ r. ⌜ r ≡ first (soughtAt what (now (t .entry))) (now (t .entry)) 0 ⌝ }
+{
+    let mut at: usize = 0;
+    while at < t.len() {
+        let Next::At(p) = step(t, at) else {
+            return t.len();
+        };
+        if is_sought(t, at, what) {
+            return at;
+        }
+        at = p;
+    }
+    t.len()
+}
+
+// The data of the first TLV of a type, as a part of the tail; empty where there is none.
+pub fn data_of(t: &[u8], kind: u16) -> &[u8]
+    ensures { λ r. ⌜ now r ≡ dataAt (now (t .entry)) (first (soughtAt (Sought.OfType kind) (now (t .entry))) (now (t .entry)) 0) ⌝ }
+{
+    let p = place(t, Sought::OfType(kind));
+    if p < t.len() {
+        let a = p + 4;
+        let n = octets::held::u16_at(t, p + 2) as usize;
+        &t[a..a + n]
+    } else {
+        &t[..0]
+    }
+}
+
+// The first misfit so far, `none` (the end) while there is none: `at` where that is one and no other came before.
+fn later(t: &[u8], at: usize, magic: u16, misfit: usize) -> usize
+    requires { ⌜ Fits (now t) at ⌝ }
+    ensures { λ r. ⌜ r ≡ laterOf magic (now (t .entry)) at misfit ⌝ }
+{
+    if misfit < t.len() {
+        return misfit;
+    }
+    if crate::form::is_misfit(t, at, magic) {
+        return at;
+    }
+    misfit
+}
+
+// What is wrong with a tail, found in one walk. That it breaks off counts before a misfit, wherever the two stand.
+pub fn first_fault(t: &[u8], magic: u16) -> Fault
+    ensures { λ r. ⌜ r ≡ faultOf magic (now (t .entry)) ⌝ }
+{
+    let mut misfit = t.len();
+    let mut at: usize = 0;
+    while at < t.len() {
+        let Next::At(p) = step(t, at) else {
+            return Fault::Broken(at);
+        };
+        misfit = later(t, at, magic, misfit);
+        at = p;
+    }
+    if misfit < t.len() {
+        return Fault::Misfit(misfit);
+    }
+    Fault::Sound
+}
+
+// The number alone of a fault.
+fn told(x: Fault) -> Outcome
+    ensures { λ r. ⌜ r ≡ outcomeOf x ⌝ }
+{
+    match x {
+        Fault::Sound => Outcome::Done,
+        Fault::Broken(_) => Outcome::Refused(Refusal::Tlv),
+        Fault::Misfit(_) => Outcome::Refused(Refusal::WrBad),
+    }
+}
+
+// The checks of a tail: 6, then 7.
+pub fn check(t: &[u8], magic: u16) -> Outcome
+    ensures { λ r. ⌜ r ≡ tailCheck magic (now (t .entry)) ⌝ }
+{
+    told(first_fault(t, magic))
+}
