@@ -1,0 +1,97 @@
+-- What an accepted message says of the octets lent, and the bounds of the fixed sizes.
+use Prim.Native.Nat.{ℕ, _-_, _≤_}
+use mathlib.Core.Path.{_≡_, refl, sym, _∙_}
+use mathlib.Core.List.{List}
+use mathlib.Core.Bool.{Bool, true, false}
+use native.Mathlib.Omega.{arith}
+use borrow.Author.Tests.{ltb-false, eqb-true, eqb-false, not-false}
+use lib.Dec.{eqb}
+use lib.ListN.{length, length-take, length-drop}
+use Rattle.refusal.specs.Choice.{pick, refuse}
+use Rattle.refusal.proofs.Choice.{passed}
+use Rattle.refusal.specs.declared.Refusal.{Refusal}
+use Rattle.refusal.specs.declared.Outcome.{Outcome}
+use Rattle.refusal.specs.declared.Outcome.the-variants.{Done, Refused}
+use Rattle.tlv.specs.Faults.{tailCheck}
+use Rattle.message.specs.Fields.{typeOf, versionOf, lengthOf, fixedSize, tailOf}
+use Rattle.message.specs.Reading.{badStamp, checkOf}
+use Rattle.message.specs.Parts.{Bounded}
+
+-- `fixedSize`, by its six tests
+abbrev sizeBy : (a b c d e f : Bool) → ℕ
+sizeBy a b c d e f = pick a 44 (pick b 44 (pick c 44 (pick d 54 (pick e 64 (pick f 44 0)))))
+
+least-by : (a b c d e f : Bool) → (sizeBy a b c d e f ≡ 0 → ⊥) → 44 ≤ sizeBy a b c d e f
+least-by true b c d e f h = omega arith
+least-by false true c d e f h = omega arith
+least-by false false true d e f h = omega arith
+least-by false false false true e f h = omega arith
+least-by false false false false true f h = omega arith
+least-by false false false false false true h = omega arith
+least-by false false false false false false h = absurd (h refl)
+
+most-by : (a b c d e f : Bool) → sizeBy a b c d e f ≤ 64
+most-by true b c d e f = omega arith
+most-by false true c d e f = omega arith
+most-by false false true d e f = omega arith
+most-by false false false true e f = omega arith
+most-by false false false false true f = omega arith
+most-by false false false false false true = omega arith
+most-by false false false false false false = omega arith
+
+-- a listed type has 44 octets or more
+pub size-least : (kind : ℕ) → (fixedSize kind ≡ 0 → ⊥) → 44 ≤ fixedSize kind
+unfolding fixedSize
+size-least kind =
+    least-by (eqb kind 0x0) (eqb kind 0x1) (eqb kind 0x8) (eqb kind 0x9) (eqb kind 0xB) (eqb kind 0xC)
+
+-- no type has more than 64
+pub size-most : (kind : ℕ) → fixedSize kind ≤ 64
+unfolding fixedSize
+size-most kind = most-by (eqb kind 0x0) (eqb kind 0x1) (eqb kind 0x8) (eqb kind 0x9) (eqb kind 0xB) (eqb kind 0xC)
+
+no-refusal : (x : Refusal) → Refused x ≡ Done → ⊥
+no-refusal x e = let z : _≡_ {A = ℕ} 0 1 = cc in omega arith
+
+-- all the checks are passed
+pub record Accepted (magic : ℕ) (s : List ℕ) : Type 0 where
+  pub header : 34 ≤ length s
+  pub version : versionOf s ≡ 2
+  pub listed : fixedSize (typeOf s) ≡ 0 → ⊥
+  pub least : fixedSize (typeOf s) ≤ lengthOf s
+  pub lent : lengthOf s ≤ length s
+  pub stamp : badStamp (typeOf s) s ≡ false
+  pub tail : tailCheck magic (tailOf s) ≡ Done
+
+pub accepted : (magic : ℕ) (s : List ℕ) → checkOf magic s ≡ Done → Accepted magic s
+unfolding checkOf
+accepted magic s e =
+    let p1 = passed _ _ _ _ (no-refusal _) e in
+    let p2 = passed _ _ _ _ (no-refusal _) (p1 .1) in
+    let p3 = passed _ _ _ _ (no-refusal _) (p2 .1) in
+    let p4 = passed _ _ _ _ (no-refusal _) (p3 .1) in
+    let p5 = passed _ _ _ _ (no-refusal _) (p4 .1) in
+    let p6 = passed _ _ _ _ (no-refusal _) (p5 .1) in
+    record {
+      header = ltb-false _ _ (p1 .0);
+      version = eqb-true _ _ (not-false _ (p2 .0));
+      listed = eqb-false _ _ (p3 .0);
+      least = ltb-false _ _ (p4 .0);
+      lent = ltb-false _ _ (p5 .0);
+      stamp = p6 .0;
+      tail = p6 .1;
+    }
+
+-- so the fixed part and the tail are there
+pub bounded : (magic : ℕ) (s : List ℕ) → checkOf magic s ≡ Done → Bounded s
+bounded magic s e = let a = accepted magic s e in record { header = a .header; least = a .least; lent = a .lent }
+
+-- the tail is what messageLength leaves behind the fixed part
+pub tail-length : (s : List ℕ) → Bounded s → length (tailOf s) ≡ lengthOf s - fixedSize (typeOf s)
+tail-length s b = simp (length-take, length-drop) (omega arith)
+
+pub fixed-part : (magic : ℕ) (s : List ℕ) → checkOf magic s ≡ Done → (44 ≤ length s) × (fixedSize (typeOf s) ≤ length s)
+fixed-part magic s e =
+    let a = accepted magic s e in
+    let h : 44 ≤ fixedSize (typeOf s) = size-least (typeOf s) (a .listed) in
+    (omega arith, omega arith)

@@ -1,0 +1,75 @@
+-- `fields::body_of` meets its contract: each arm knows the type, and so how many octets are there.
+use mathlib.Core.Path.{ap}
+use borrow.Author.Tests.{ne-eqb}
+use Rattle.message.specs.Fields.{fixedSize, bodyOf}
+use Rattle.message.specs.declared.fields.Body.the-variants as body
+use borrow.Author.Needs.{needs}
+use Rattle.message.proofs.fields.body_of.Statement.{statement}
+use Rattle.message.proofs.fields.body_of.Tie as tie
+
+shared-slice-read-kind : tie.Need-shared-slice-read-kind
+shared-slice-read-kind c = search needs
+
+stamp-of-requires : tie.Need-stamp-of-requires
+stamp-of-requires c κs = search needs
+
+stamp-of-requires-2 : tie.Need-stamp-of-requires-2
+stamp-of-requires-2 c κs = search needs
+
+stamp-of-requires-3 : tie.Need-stamp-of-requires-3
+stamp-of-requires-3 c κs = search needs
+
+delay-resp-of-requires : tie.Need-delay-resp-of-requires
+unfolding fixedSize
+delay-resp-of-requires c κs = rw (c .match .keys4) at (c .before .before .before .pre .1)
+
+announce-of-requires : tie.Need-announce-of-requires
+unfolding fixedSize
+announce-of-requires c κs = rw (c .match .keys5) at (c .before .before .before .pre .1)
+
+identity-at-requires : tie.Need-identity-at-requires
+identity-at-requires c κs = search needs
+
+returns : tie.Need-returns
+unfolding bodyOf
+returns c = rw (c .before .match .keys1) (ap body.Sync (c .stamp-of .ensures))
+
+returns-2 : tie.Need-returns-2
+unfolding bodyOf
+returns-2 c = rw (c .before .match .keys2) (ap body.DelayReq (c .stamp-of2 .ensures))
+
+returns-3 : tie.Need-returns-3
+unfolding bodyOf
+returns-3 c = rw (c .before .match .keys3) (ap body.FollowUp (c .stamp-of3 .ensures))
+
+returns-4 : tie.Need-returns-4
+unfolding bodyOf
+returns-4 c = rw (c .before .match .keys4) (ap body.DelayResp (c .delay-resp-of .ensures))
+
+returns-5 : tie.Need-returns-5
+unfolding bodyOf
+returns-5 c = rw (c .before .match .keys5) (ap body.Announce (c .announce-of .ensures))
+
+returns-6 : tie.Need-returns-6
+unfolding bodyOf
+returns-6 c =
+    let r = c .before .match .rest in
+    rw (ne-eqb _ _ (r .0 .0 .0 .0 .1), ne-eqb _ _ (r .0 .0 .0 .1), ne-eqb _ _ (r .0 .0 .1), ne-eqb _ _ (r .0 .1), ne-eqb _ _ (r .1)) (ap body.Signaling (c .identity-at .ensures))
+
+pub body-of-spec : {M : Type 1} → statement M
+body-of-spec =
+    tie.close
+    (tie.spec
+    shared-slice-read-kind
+    stamp-of-requires
+    stamp-of-requires-2
+    stamp-of-requires-3
+    delay-resp-of-requires
+    announce-of-requires
+    identity-at-requires
+    returns
+    returns-2
+    returns-3
+    returns-4
+    returns-5
+    returns-6)

@@ -1,0 +1,48 @@
+-- `parts::tail` meets its contract: nothing where the checks refuse, else the tail.
+use mathlib.Core.Path.{_≡_, sym, _∙_}
+use Rattle.refusal.specs.declared.Outcome.the-variants.{Done}
+use Rattle.message.specs.Reading.{checkOf}
+use Rattle.message.specs.Parts.{tailIn}
+use Rattle.message.proofs.Laws.{bounded}
+use borrow.Author.Needs.{needs}
+use Rattle.message.proofs.parts.tail.Statement.{statement}
+use Rattle.message.proofs.parts.tail.Tie as tie
+
+-- the checks are passed
+done : (c : tie.After-enum-told2) → let a = c .before .before .before .before .args in checkOf (a .magic) (a .s .now) ≡ Done
+done c = sym (c .before .before .check .ensures) ∙ c .enum-told2 .given .1
+
+check-requires : tie.Need-check-requires
+check-requires c κs = search needs
+
+enum-told : tie.Need-enum-told
+enum-told c = search needs
+
+slice-aggregate-result : tie.Need-slice-aggregate-result
+slice-aggregate-result c = search needs
+
+enum-told-2 : tie.Need-enum-told-2
+enum-told-2 c = search needs
+
+checked-tail-requires : tie.Need-checked-tail-requires
+checked-tail-requires c κs = bounded _ _ (done c)
+
+returns : tie.Need-returns
+unfolding tailIn
+returns c = let k = c .before in rw (← k .before .before .check .ensures, k .enum-told .given .1)
+
+returns-2 : tie.Need-returns-2
+unfolding tailIn
+returns-2 c = rw (done (c .before)) (c .checked-tail .ensures)
+
+pub tail-spec : {M : Type 1} → statement M
+tail-spec =
+    tie.close
+    (tie.spec
+    check-requires
+    enum-told
+    slice-aggregate-result
+    enum-told-2
+    checked-tail-requires
+    returns
+    returns-2)

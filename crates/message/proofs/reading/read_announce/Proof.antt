@@ -1,0 +1,69 @@
+-- `reading::read_announce` meets its contract: what was accepted has its fixed part, an Announce 64 octets.
+use Prim.Native.Nat.{_≤_}
+use mathlib.Core.Path.{_≡_, sym, _∙_}
+use native.Mathlib.Omega.{arith}
+use borrow.Author.Tests.{eq-eqb, ne-eqb}
+use lib.ListN.{length}
+use Rattle.refusal.specs.Choice.{refuse}
+use Rattle.refusal.specs.declared.Outcome.the-variants.{Done}
+use Rattle.message.specs.Fields.{typeOf, fixedSize}
+use Rattle.message.specs.Reading.{checkOf, announcedOf}
+use Rattle.message.specs.declared.reading.Announced.the-variants as announced
+use Rattle.message.proofs.Laws.{fixed-part}
+use borrow.Author.Needs.{needs}
+use Rattle.message.proofs.reading.read_announce.Statement.{statement}
+use Rattle.message.proofs.reading.read_announce.Tie as tie
+
+-- the checks are passed
+done : (c : tie.After-enum-told) → let a = c .before .before .before .before .args in checkOf (a .magic) (a .s .now) ≡ Done
+done c = sym (c .before .before .check .ensures) ∙ c .enum-told .given .1
+
+check-requires : tie.Need-check-requires
+check-requires c κs = search needs
+
+enum-known-x : tie.Need-enum-known-x
+enum-known-x c = search needs
+
+enum-told : tie.Need-enum-told
+enum-told c = search needs
+
+shared-slice-read-if1 : tie.Need-shared-slice-read-if1
+shared-slice-read-if1 c = let f = fixed-part _ _ (done (c .before)) in omega arith
+
+header-of-requires : tie.Need-header-of-requires
+header-of-requires c κs = let f = fixed-part _ _ (done (c .before .before)) in omega arith
+
+announce-of-requires : tie.Need-announce-of-requires
+unfolding fixedSize
+announce-of-requires c κs =
+    let k = c .before in
+    rw (k .if1 .taken) at (fixed-part _ _ (done (k .before .before)) .1)
+
+returns : tie.Need-returns
+unfolding announcedOf
+returns c = rw (← c .before .before .before .check .ensures, c .before .x .given .1)
+
+returns-2 : tie.Need-returns-2
+unfolding announcedOf refuse
+returns-2 c =
+    let h = c .before in
+    let k = h .before in
+    rw (done (k .before .before), eq-eqb _ _ (k .if1 .taken)) (λ i. announced.Whole (h .header-of .ensures i) (c .announce-of .ensures i))
+
+returns-3 : tie.Need-returns-3
+unfolding announcedOf refuse
+returns-3 c = rw (done (c .before .before), ne-eqb _ _ (c .if1 .left))
+
+pub read-announce-spec : {M : Type 1} → statement M
+read-announce-spec =
+    tie.close
+    (tie.spec
+    check-requires
+    enum-known-x
+    enum-told
+    shared-slice-read-if1
+    header-of-requires
+    announce-of-requires
+    returns
+    returns-2
+    returns-3)

@@ -1,0 +1,134 @@
+// Parts of a message: its tail, the data of its first TLV of a type, and what White Rabbit's TLVs say.
+//
+// A part is handed back as a slice of the message lent. It is empty where the message is refused or has no such part;
+// the call beside says which.
+ghost use mathlib.Core.Path.{_≡_};
+ghost use Prim.Native.Nat.{_≤_};
+ghost use lib.ListN.{length};
+ghost use Rattle.message.specs.Fields.{tailOf};
+ghost use Rattle.message.specs.Parts.{Bounded, tailIn, dataIn, lookupOf, suffixAnswer, suffixOf, linkAnswer, linkOf};
+use crate::fields::ANNOUNCE;
+use crate::fields::SIGNALING;
+use refusal::Outcome;
+use refusal::Refusal;
+use tlv::walk::Sought;
+use tlv::wr::LinkFound;
+use tlv::wr::LinkMessage;
+use tlv::wr::Suffix;
+
+// Where the data of the first TLV of a type begin in the message, that there is none, or why the message is refused.
+pub enum TlvRead {
+    Found(usize),
+    Absent,
+    Refused(Refusal),
+}
+
+// wrFlags of an Announce's suffix, that it has none, or why it is refused.
+pub enum SuffixRead {
+    Flags(u16),
+    Absent,
+    Refused(Refusal),
+}
+
+// The link message of a Signaling, that it has none, or why it is refused.
+pub enum LinkRead {
+    Message(LinkMessage),
+    Absent,
+    Refused(Refusal),
+}
+
+// The tail of a message whose lengths have been checked.
+fn checked_tail(s: &[u8]) -> &[u8]
+    requires { ⌜ Bounded (now s) ⌝ }
+    ensures { λ r. ⌜ now r ≡ tailOf (now (s .entry)) ⌝ }
+{
+    let size = crate::fields::fixed_size(s[0] % 16);
+    let length = octets::held::u16_at(s, 2) as usize;
+    &s[size..length]
+}
+
+// What stands between the fixed part and messageLength.
+pub fn tail(s: &[u8], magic: u16) -> &[u8]
+    ensures { λ r. ⌜ now r ≡ tailIn magic (now (s .entry)) ⌝ }
+{
+    match crate::reading::check(s, magic) {
+        Outcome::Refused(_) => &s[..0],
+        Outcome::Done => checked_tail(s),
+    }
+}
+
+// The data of the first TLV of a type.
+pub fn lookup(s: &[u8], kind: u16, magic: u16) -> &[u8]
+    ensures { λ r. ⌜ now r ≡ dataIn magic kind (now (s .entry)) ⌝ }
+{
+    let t = tail(s, magic);
+    tlv::walk::data_of(t, kind)
+}
+
+// Why `lookup` hands back what it does.
+pub fn looked_up(s: &[u8], kind: u16, magic: u16) -> TlvRead
+    ensures { λ r. ⌜ r ≡ lookupOf magic kind (now (s .entry)) ⌝ }
+{
+    match crate::reading::check(s, magic) {
+        Outcome::Refused(x) => TlvRead::Refused(x),
+        Outcome::Done => {
+            let t = checked_tail(s);
+            let p = tlv::walk::place(t, Sought::OfType(kind));
+            if p < t.len() {
+                TlvRead::Found(crate::fields::fixed_size(s[0] % 16) + p + 4)
+            } else {
+                TlvRead::Absent
+            }
+        }
+    }
+}
+
+fn suffix_read(x: Suffix) -> SuffixRead
+    ensures { λ r. ⌜ r ≡ suffixAnswer x ⌝ }
+{
+    match x {
+        Suffix::Flags(flags) => SuffixRead::Flags(flags),
+        Suffix::Absent => SuffixRead::Absent,
+    }
+}
+
+// The suffix of an Announce: the reading checks, then 3 if it is another message.
+pub fn suffix(s: &[u8], magic: u16) -> SuffixRead
+    ensures { λ r. ⌜ r ≡ suffixOf magic (now (s .entry)) ⌝ }
+{
+    match crate::reading::check(s, magic) {
+        Outcome::Refused(x) => SuffixRead::Refused(x),
+        Outcome::Done => {
+            if s[0] % 16 == ANNOUNCE {
+                suffix_read(tlv::wr::first_suffix(checked_tail(s), magic))
+            } else {
+                SuffixRead::Refused(Refusal::Type)
+            }
+        }
+    }
+}
+
+fn link_read(x: LinkFound) -> LinkRead
+    ensures { λ r. ⌜ r ≡ linkAnswer x ⌝ }
+{
+    match x {
+        LinkFound::Message(m) => LinkRead::Message(m),
+        LinkFound::Absent => LinkRead::Absent,
+    }
+}
+
+// The first link message of a Signaling: the reading checks, then 3 if it is another message.
+pub fn link_message(s: &[u8], magic: u16) -> LinkRead
+    ensures { λ r. ⌜ r ≡ linkOf magic (now (s .entry)) ⌝ }
+{
+    match crate::reading::check(s, magic) {
+        Outcome::Refused(x) => LinkRead::Refused(x),
+        Outcome::Done => {
+            if s[0] % 16 == SIGNALING {
+                link_read(tlv::wr::first_link(checked_tail(s), magic))
+            } else {
+                LinkRead::Refused(Refusal::Type)
+            }
+        }
+    }
+}

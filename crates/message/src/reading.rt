@@ -1,0 +1,94 @@
+// The checks of reading, and a message read.
+ghost use mathlib.Core.Path.{_≡_};
+ghost use Prim.Native.Nat.{_≤_};
+ghost use lib.ListN.{length};
+ghost use Rattle.message.specs.Fields.{typeOf};
+ghost use Rattle.message.specs.Reading.{badStamp, checkOf, readOf, announcedOf};
+use crate::fields::ANNOUNCE;
+use crate::fields::Announce;
+use crate::fields::Header;
+use crate::fields::Message;
+use crate::fields::SIGNALING;
+use refusal::Outcome;
+use refusal::Refusal;
+
+// A message, or the number that refuses it.
+pub enum Reading {
+    Whole(Message),
+    Refused(Refusal),
+}
+
+// An Announce, or the number that refuses it.
+pub enum Announced {
+    Whole(Header, Announce),
+    Refused(Refusal),
+}
+
+// Whether the octets carry a timestamp of 10^9 nanoseconds or more. A Signaling has an identity in that place.
+fn bad_stamp(s: &[u8], kind: u8) -> bool
+    requires { ⌜ 44 ≤ length (now s) ⌝ }
+    ensures { λ r. ⌜ r ≡ badStamp kind (now (s .entry)) ⌝ }
+{
+    if kind == SIGNALING {
+        return false;
+    }
+    octets::held::u32_at(s, 40) >= 1_000_000_000
+}
+
+// The checks: under 34 octets, 2, 3, 4, messageLength, 5, then the tail's 6 and 7.
+pub fn check(s: &[u8], magic: u16) -> Outcome
+    ensures { λ r. ⌜ r ≡ checkOf magic (now (s .entry)) ⌝ }
+{
+    if s.len() < 34 {
+        return Outcome::Refused(Refusal::Short);
+    }
+    if s[1] % 16 != 2 {
+        return Outcome::Refused(Refusal::Version);
+    }
+    let kind = s[0] % 16;
+    let size = crate::fields::fixed_size(kind);
+    if size == 0 {
+        return Outcome::Refused(Refusal::Type);
+    }
+    let length = octets::held::u16_at(s, 2) as usize;
+    if length < size {
+        return Outcome::Refused(Refusal::Length);
+    }
+    if s.len() < length {
+        return Outcome::Refused(Refusal::Short);
+    }
+    if bad_stamp(s, kind) {
+        return Outcome::Refused(Refusal::Stamp);
+    }
+    let tail = &s[size..length];
+    tlv::walk::check(tail, magic)
+}
+
+// Any octets at all, read.
+pub fn read(s: &[u8], magic: u16) -> Reading
+    ensures { λ r. ⌜ r ≡ readOf magic (now (s .entry)) ⌝ }
+{
+    match check(s, magic) {
+        Outcome::Refused(x) => Reading::Refused(x),
+        Outcome::Done => Reading::Whole(Message {
+            header: crate::fields::header_of(s),
+            body: crate::fields::body_of(s),
+        }),
+    }
+}
+
+// An Announce read: the reading checks, then 3 if it is another message.
+pub fn read_announce(s: &[u8], magic: u16) -> Announced
+    ensures { λ r. ⌜ r ≡ announcedOf magic (now (s .entry)) ⌝ }
+{
+    match check(s, magic) {
+        Outcome::Refused(x) => Announced::Refused(x),
+        Outcome::Done => {
+            if s[0] % 16 == ANNOUNCE {
+                Announced::Whole(crate::fields::header_of(s), crate::fields::announce_of(s))
+            } else {
+                Announced::Refused(Refusal::Type)
+            }
+        }
+    }
+}
