@@ -8,14 +8,16 @@ use Rattle.refusal.specs.Choice.{pick, refuse}
 use Rattle.refusal.specs.declared.Refusal.the-variants.{«Type»}
 use Rattle.tlv.specs.Walk.{first, dataAt}
 use Rattle.tlv.specs.Faults.{soughtAt}
-use Rattle.tlv.specs.Wr.{suffixIn, linkIn}
+use Rattle.tlv.specs.Wr.{suffixIn, wrFlagsOf, linkIn}
 use Rattle.tlv.specs.declared.walk.Sought.the-variants.{OfType}
 use Rattle.tlv.specs.declared.wr.Suffix.{Suffix}
 use Rattle.tlv.specs.declared.wr.Suffix.the-variants as suffix
 use Rattle.tlv.specs.declared.wr.LinkFound.{LinkFound}
 use Rattle.tlv.specs.declared.wr.LinkFound.the-variants as found
-use Rattle.message.specs.Fields.{typeOf, lengthOf, fixedSize, tailOf}
+use Rattle.message.specs.Fields.{typeOf, lengthOf, fixedSize, headerOf, announceOf, tailOf}
 use Rattle.message.specs.Reading.{checkOf, by}
+use Rattle.message.specs.declared.announce.Announced.{Announced}
+use Rattle.message.specs.declared.announce.Announced.the-variants as announced
 use Rattle.message.specs.declared.parts.TlvRead.{TlvRead}
 use Rattle.message.specs.declared.parts.TlvRead.the-variants as lookup
 use Rattle.message.specs.declared.parts.SuffixRead.{SuffixRead}
@@ -59,6 +61,13 @@ suffixOf magic s =
     by (checkOf magic s) flags.Refused
     (refuse (not (eqb (typeOf s) 0xB)) (flags.Refused «Type»)
     (suffixAnswer (suffixIn magic (tailOf s))))
+
+-- "the reading checks, 3 if it isn't an Announce"; wrFlags 0 without a suffix
+unfoldable pub announcedOf : ℕ → List ℕ → Announced
+announcedOf magic s =
+    by (checkOf magic s) announced.Refused
+    (refuse (not (eqb (typeOf s) 0xB)) (announced.Refused «Type»)
+    (announced.Whole (record { header = headerOf s; announce = announceOf s; flags = wrFlagsOf (suffixIn magic (tailOf s)) })))
 
 abbrev pub linkAnswer : LinkFound → LinkRead
 linkAnswer (found.Message m) = link.Message m

@@ -5,18 +5,15 @@ use mathlib.Core.Bool.{Bool, not, _&&_}
 use lib.Dec.{eqb, ltb, leb}
 use lib.ListN.{length}
 use Rattle.octets.specs.Be.{be}
-use Rattle.refusal.specs.Choice.{pick, refuse}
+use Rattle.refusal.specs.Choice.{refuse}
 use Rattle.refusal.specs.declared.Refusal.{Refusal}
 use Rattle.refusal.specs.declared.Refusal.the-variants.{Short, Version, «Type», Length, Stamp}
 use Rattle.refusal.specs.declared.Outcome.{Outcome}
 use Rattle.refusal.specs.declared.Outcome.the-variants as outcome
 use Rattle.tlv.specs.Faults.{tailCheck}
-use Rattle.message.specs.Fields.{typeOf, versionOf, lengthOf, fixedSize, headerOf, announceOf, messageOf, tailOf}
-use Rattle.message.specs.declared.fields.Message.{Message}
+use Rattle.message.specs.Fields.{typeOf, versionOf, lengthOf, fixedSize, messageOf, tailOf}
 use Rattle.message.specs.declared.reading.Reading.{Reading}
 use Rattle.message.specs.declared.reading.Reading.the-variants as reading
-use Rattle.message.specs.declared.reading.Announced.{Announced}
-use Rattle.message.specs.declared.reading.Announced.the-variants as announced
 
 -- "a timestamp's nanoseconds are 1,000,000,000 or more"; a Signaling has none
 abbrev pub badStamp : ℕ → List ℕ → Bool
@@ -40,10 +37,3 @@ by (outcome.Refused x) refused a = refused x
 
 unfoldable pub readOf : ℕ → List ℕ → Reading
 readOf magic s = by (checkOf magic s) reading.Refused (reading.Whole (messageOf s))
-
--- "the reading checks, 3 if it isn't an Announce"
-unfoldable pub announcedOf : ℕ → List ℕ → Announced
-announcedOf magic s =
-    by (checkOf magic s) announced.Refused
-    (refuse (not (eqb (typeOf s) 0xB)) (announced.Refused «Type»)
-    (announced.Whole (headerOf s) (announceOf s)))

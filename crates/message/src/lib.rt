@@ -2,7 +2,8 @@
 //
 // `fields` has the structs of a message and where their fields stand; `reading` checks the octets lent, in the order
 // of 01, and reads them; `parts` hands back parts of a message: its tail, the data of a TLV, what White Rabbit's TLVs
-// say. Octets past messageLength are padding, reserved fields and controlField are ignored. Nothing lent changes.
+// say; `announce` reads an Announce with its suffix. Octets past messageLength are padding, reserved fields and controlField are ignored. Nothing lent changes.
+pub mod announce;
 pub mod fields;
 pub mod parts;
 pub mod reading;

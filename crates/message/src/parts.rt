@@ -38,7 +38,7 @@ pub enum LinkRead {
 }
 
 // The tail of a message whose lengths have been checked.
-fn checked_tail(s: &[u8]) -> &[u8]
+pub fn checked_tail(s: &[u8]) -> &[u8]
     requires { ⌜ Bounded (now s) ⌝ }
     ensures { λ r. ⌜ now r ≡ tailOf (now (s .entry)) ⌝ }
 {

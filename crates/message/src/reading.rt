@@ -2,8 +2,7 @@
 ghost use mathlib.Core.Path.{_≡_};
 ghost use Prim.Native.Nat.{_≤_};
 ghost use lib.ListN.{length};
-ghost use Rattle.message.specs.Fields.{typeOf};
-ghost use Rattle.message.specs.Reading.{badStamp, checkOf, readOf, announcedOf};
+ghost use Rattle.message.specs.Reading.{badStamp, checkOf, readOf};
 use crate::fields::ANNOUNCE;
 use crate::fields::Announce;
 use crate::fields::Header;
@@ -15,12 +14,6 @@ use refusal::Refusal;
 // A message, or the number that refuses it.
 pub enum Reading {
     Whole(Message),
-    Refused(Refusal),
-}
-
-// An Announce, or the number that refuses it.
-pub enum Announced {
-    Whole(Header, Announce),
     Refused(Refusal),
 }
 
@@ -74,21 +67,5 @@ pub fn read(s: &[u8], magic: u16) -> Reading
             header: crate::fields::header_of(s),
             body: crate::fields::body_of(s),
         }),
-    }
-}
-
-// An Announce read: the reading checks, then 3 if it is another message.
-pub fn read_announce(s: &[u8], magic: u16) -> Announced
-    ensures { λ r. ⌜ r ≡ announcedOf magic (now (s .entry)) ⌝ }
-{
-    match check(s, magic) {
-        Outcome::Refused(x) => Announced::Refused(x),
-        Outcome::Done => {
-            if s[0] % 16 == ANNOUNCE {
-                Announced::Whole(crate::fields::header_of(s), crate::fields::announce_of(s))
-            } else {
-                Announced::Refused(Refusal::Type)
-            }
-        }
     }
 }
