@@ -1,0 +1,11 @@
+//! The rules of document 01, written from that document, the sources it names
+//! and the agreed readings alone.  Nothing here knows of lines or text.
+
+pub mod clock;
+pub mod message;
+pub mod octets;
+pub mod reading;
+pub mod refusal;
+pub mod tlv;
+pub mod white_rabbit;
+pub mod writing;

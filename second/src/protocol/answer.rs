@@ -1,0 +1,140 @@
+//! The answer to a line.  Each call takes its tokens, all of them, before it
+//! asks the engine: a line that is no call changes nothing and comes before any
+//! refusal.
+
+use super::lines::LONGEST_LINE;
+use super::show;
+use super::tokens::Tokens;
+use crate::engine::clock::{Clock, OwnQuality};
+use crate::engine::reading::{look_up, read, read_link_message, read_suffix};
+use crate::engine::refusal::Refusal;
+
+/// The answer to a line that is no call.
+pub const BAD_LINE: &str = "bad line";
+/// The answer of a call that has nothing to hand back.
+const OK: &str = "ok";
+
+/// What a line, without its newline, answers; none for an empty line and a
+/// comment.  The clock becomes what the call makes of it.
+pub fn answer(clock: &mut Clock, line: &[u8]) -> Option<String> {
+    if line.is_empty() || line[0] == b'#' {
+        return None;
+    }
+    if line.len() > LONGEST_LINE {
+        return Some(BAD_LINE.to_string());
+    }
+    let answer = call(clock, Tokens::of(line));
+    Some(answer.unwrap_or_else(|| BAD_LINE.to_string()))
+}
+
+/// The answer of the call that the tokens name; none if they are no call.
+fn call(clock: &mut Clock, mut tokens: Tokens) -> Option<String> {
+    match tokens.word()? {
+        b"fresh" => set_fresh(clock, tokens),
+        b"clock" => set_identity(clock, tokens),
+        b"domain" => set_domain(clock, tokens),
+        b"magic" => set_magic(clock, tokens),
+        b"own" => set_own(clock, tokens),
+        b"read" => answer_read(clock, tokens),
+        b"lookup" => answer_lookup(clock, tokens),
+        b"suffix" => answer_suffix(clock, tokens),
+        b"linkmessage" => answer_link_message(clock, tokens),
+        _ => None,
+    }
+}
+
+/// A refusal's answer.
+fn refused(refusal: Refusal) -> String {
+    format!("refused {}", refusal.number())
+}
+
+/// The answer of a call that finds something, finds nothing or is refused.
+fn found<T>(result: Result<Option<T>, Refusal>, show: impl Fn(T) -> String) -> String {
+    match result {
+        Ok(Some(value)) => format!("found {}", show(value)),
+        Ok(None) => "absent".to_string(),
+        Err(refusal) => refused(refusal),
+    }
+}
+
+/// `fresh`
+fn set_fresh(clock: &mut Clock, tokens: Tokens) -> Option<String> {
+    tokens.end()?;
+    *clock = Clock::fresh();
+    Some(OK.to_string())
+}
+
+/// `clock C`
+fn set_identity(clock: &mut Clock, mut tokens: Tokens) -> Option<String> {
+    let identity = tokens.number()?;
+    tokens.end()?;
+    clock.identity = identity;
+    Some(OK.to_string())
+}
+
+/// `domain D`
+fn set_domain(clock: &mut Clock, mut tokens: Tokens) -> Option<String> {
+    let domain = tokens.number()?;
+    tokens.end()?;
+    clock.domain = domain;
+    Some(OK.to_string())
+}
+
+/// `magic M`
+fn set_magic(clock: &mut Clock, mut tokens: Tokens) -> Option<String> {
+    let magic = tokens.number()?;
+    tokens.end()?;
+    clock.magic = magic;
+    Some(OK.to_string())
+}
+
+/// `own P1 CLASS ACC VAR P2`
+fn set_own(clock: &mut Clock, mut tokens: Tokens) -> Option<String> {
+    let own = OwnQuality {
+        priority1: tokens.number()?,
+        class: tokens.number()?,
+        accuracy: tokens.number()?,
+        variance: tokens.number()?,
+        priority2: tokens.number()?,
+    };
+    tokens.end()?;
+    clock.own = own;
+    Some(OK.to_string())
+}
+
+/// `read OCTETS`
+fn answer_read(clock: &Clock, mut tokens: Tokens) -> Option<String> {
+    let octets = tokens.octets()?;
+    tokens.end()?;
+    Some(match read(&octets, clock.magic) {
+        Ok(message) => format!("ok {}", show::message(&message)),
+        Err(refusal) => refused(refusal),
+    })
+}
+
+/// `lookup TLVTYPE OCTETS`
+fn answer_lookup(clock: &Clock, mut tokens: Tokens) -> Option<String> {
+    let tlv_type = tokens.number()?;
+    let octets = tokens.octets()?;
+    tokens.end()?;
+    let result = look_up(&octets, tlv_type, clock.magic);
+    Some(found(result, |(at, data)| {
+        format!("{at} {}", show::octets(data))
+    }))
+}
+
+/// `suffix OCTETS`
+fn answer_suffix(clock: &Clock, mut tokens: Tokens) -> Option<String> {
+    let octets = tokens.octets()?;
+    tokens.end()?;
+    let result = read_suffix(&octets, clock.magic);
+    Some(found(result, |flags| flags.to_string()))
+}
+
+/// `linkmessage OCTETS`
+fn answer_link_message(clock: &Clock, mut tokens: Tokens) -> Option<String> {
+    let octets = tokens.octets()?;
+    tokens.end()?;
+    let result = read_link_message(&octets, clock.magic);
+    Some(found(result, show::link_message))
+}

@@ -1,0 +1,8 @@
+//! The line protocol: one call a line in, one answer a line out.
+
+pub mod answer;
+pub mod lines;
+pub mod show;
+pub mod tokens;
+#[cfg(test)]
+mod worked_rows;

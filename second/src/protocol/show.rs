@@ -1,0 +1,105 @@
+//! Values as answers spell them: a clockIdentity is `0x` and 16 digits, other
+//! numbers are decimal, octets are lower case and `-` where there are none.
+
+use crate::engine::message::{Announce, Body, Header, Message, PortIdentity, Timestamp};
+use crate::engine::white_rabbit::LinkMessage;
+
+/// Octets.
+pub fn octets(octets: &[u8]) -> String {
+    const DIGITS: &[u8; 16] = b"0123456789abcdef";
+    if octets.is_empty() {
+        return "-".to_string();
+    }
+    let mut text = String::with_capacity(2 * octets.len());
+    for &octet in octets {
+        text.push(char::from(DIGITS[usize::from(octet >> 4)]));
+        text.push(char::from(DIGITS[usize::from(octet & 0x0f)]));
+    }
+    text
+}
+
+/// A clockIdentity.
+pub fn clock(identity: u64) -> String {
+    format!("0x{identity:016x}")
+}
+
+/// A clock and its port.
+pub fn identity(identity: PortIdentity) -> String {
+    format!("{} {}", clock(identity.clock), identity.port)
+}
+
+/// A message as reading answers it.
+pub fn message(message: &Message) -> String {
+    format!(
+        "{} {} {} {}",
+        message.body.message_type().number(),
+        header(&message.header),
+        body(&message.body),
+        octets(message.tail)
+    )
+}
+
+/// A header's fields.
+fn header(header: &Header) -> String {
+    format!(
+        "{} {} {} {} {} {} {}",
+        header.transport_specific,
+        header.domain,
+        header.flags,
+        header.correction,
+        identity(header.source),
+        header.sequence,
+        header.log_interval
+    )
+}
+
+/// A body's fields.
+fn body(body: &Body) -> String {
+    match *body {
+        Body::Sync(stamp) | Body::DelayReq(stamp) | Body::FollowUp(stamp) => timestamp(stamp),
+        Body::DelayResp(stamp, requesting) => {
+            format!("{} {}", timestamp(stamp), identity(requesting))
+        }
+        Body::Announce(stamp, ref fields) => {
+            format!("{} {}", timestamp(stamp), announce(fields))
+        }
+        Body::Signaling(target) => identity(target),
+    }
+}
+
+/// Seconds and nanoseconds.
+fn timestamp(stamp: Timestamp) -> String {
+    format!("{} {}", stamp.seconds, stamp.nanoseconds)
+}
+
+/// An Announce's fields behind its timestamp.
+fn announce(fields: &Announce) -> String {
+    format!(
+        "{} {} {} {} {} {} {} {} {}",
+        fields.utc_offset,
+        fields.priority1,
+        fields.class,
+        fields.accuracy,
+        fields.variance,
+        fields.priority2,
+        clock(fields.grandmaster),
+        fields.steps_removed,
+        fields.time_source
+    )
+}
+
+/// A link message's number and values.
+pub fn link_message(message: LinkMessage) -> String {
+    let number = message.number();
+    match message {
+        LinkMessage::Calibrate {
+            pattern,
+            retry,
+            period,
+        } => format!("{number} {pattern} {retry} {period}"),
+        LinkMessage::Calibrated { delta_tx, delta_rx } => {
+            format!("{number} {delta_tx} {delta_rx}")
+        }
+        _ => number.to_string(),
+    }
+}

@@ -1,0 +1,92 @@
+//! Lines by seed.  The generator keeps a clock of its own and answers its own
+//! lines as it goes, so that later lines can be aimed at what the earlier ones
+//! made of it.
+
+use super::calls::Call;
+use super::malformed::{longest, malformed, silent};
+use super::random::Random;
+use super::reading_lines as reading;
+use super::settings_lines as settings;
+use crate::engine::clock::Clock;
+use crate::protocol::answer::answer;
+
+/// A line, without its newline, and what it answers, if anything.
+pub struct Vector {
+    pub line: Vec<u8>,
+    pub answer: Option<String>,
+}
+
+/// The lines of some calls under a seed.
+pub struct Generator {
+    random: Random,
+    calls: Vec<Call>,
+    clock: Clock,
+}
+
+impl Generator {
+    /// The generator of a seed for these calls.
+    pub fn new(calls: Vec<Call>, seed: u64) -> Generator {
+        Generator {
+            random: Random::new(seed),
+            calls,
+            clock: Clock::fresh(),
+        }
+    }
+
+    /// The next line and its answer.
+    pub fn next_vector(&mut self) -> Vector {
+        let line = self.line();
+        let answer = answer(&mut self.clock, &line);
+        Vector { line, answer }
+    }
+
+    /// The next line: mostly a call that was asked for, else a setting, a line
+    /// that is one step from a call, or one that answers nothing.
+    fn line(&mut self) -> Vec<u8> {
+        match self.random.below(1000) {
+            0..=29 => self.setting(),
+            30..=69 => {
+                let line = self.asked_for();
+                malformed(&mut self.random, line)
+            }
+            70..=74 => silent(&mut self.random),
+            75 if self.random.chance(1, 20) => longest(&mut self.random),
+            _ => self.asked_for(),
+        }
+    }
+
+    /// A line of a setting, whatever was asked for.
+    fn setting(&mut self) -> Vec<u8> {
+        let call = match self.random.below(16) {
+            0 => Call::Fresh,
+            1..=3 => Call::Clock,
+            4..=6 => Call::Domain,
+            7..=11 => Call::Magic,
+            _ => Call::Own,
+        };
+        self.line_of(call)
+    }
+
+    /// A line of one of the calls that were asked for.
+    fn asked_for(&mut self) -> Vec<u8> {
+        let call = self.random.pick(&self.calls);
+        self.line_of(call)
+    }
+
+    /// A line of a call.
+    fn line_of(&mut self, call: Call) -> Vec<u8> {
+        let random = &mut self.random;
+        let magic = self.clock.magic;
+        match call {
+            Call::Fresh => settings::fresh_line(),
+            Call::Clock => settings::clock_line(random),
+            Call::Domain => settings::domain_line(random),
+            Call::Magic => settings::magic_line(random),
+            Call::Own => settings::own_line(random),
+            Call::Read => reading::read_line(random, magic),
+            Call::Lookup => reading::lookup_line(random, magic),
+            Call::Suffix => reading::suffix_line(random, magic),
+            Call::LinkMessage => reading::link_message_line(random, magic),
+        }
+    }
+}

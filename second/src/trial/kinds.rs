@@ -1,0 +1,53 @@
+//! How often each kind of answer came, to show what the lines reach.
+
+use super::calls::CALLS;
+use super::generator::Vector;
+use std::collections::BTreeMap;
+
+/// The counts so far, by call and kind.
+#[derive(Default)]
+pub struct Kinds {
+    counts: BTreeMap<(String, String), u64>,
+}
+
+impl Kinds {
+    /// Counts one line.
+    pub fn count(&mut self, vector: &Vector) {
+        let kind = (call_of(&vector.line), kind_of(vector));
+        *self.counts.entry(kind).or_default() += 1;
+    }
+
+    /// The table, one kind a line.
+    pub fn table(&self) -> String {
+        self.counts
+            .iter()
+            .map(|((call, kind), count)| format!("{count:>9}  {call} {kind}\n"))
+            .collect()
+    }
+}
+
+/// The call a line names, or `other`.
+fn call_of(line: &[u8]) -> String {
+    let name = line.split(|&c| c == b' ').next().unwrap_or_default();
+    CALLS
+        .iter()
+        .find(|(known, _)| known.as_bytes() == name)
+        .map_or("other", |(known, _)| known)
+        .to_string()
+}
+
+/// The kind of an answer: the whole of it where it is short, its beginning and
+/// a telling field where it holds values.
+fn kind_of(vector: &Vector) -> String {
+    let Some(answer) = &vector.answer else {
+        return "nothing".to_string();
+    };
+    let words: Vec<&str> = answer.split(' ').collect();
+    match (call_of(&vector.line).as_str(), words[0]) {
+        ("read", "ok") => format!("ok type {}", words[1]),
+        ("lookup", "found") if words[2] == "-" => "found empty".to_string(),
+        ("lookup", "found") => "found".to_string(),
+        ("linkmessage", "found") => format!("found {}", words[1]),
+        _ => answer.clone(),
+    }
+}

@@ -1,0 +1,16 @@
+//! The trial of one implementation against the other: lines made by seed and
+//! weighted to the edges, the comparison of two programs' answers, and a table
+//! of how often each answer came.
+
+pub mod call_line;
+pub mod calls;
+pub mod compare;
+pub mod generator;
+pub mod kinds;
+pub mod malformed;
+pub mod messages;
+pub mod random;
+pub mod reading_lines;
+pub mod settings_lines;
+pub mod tails;
+pub mod values;
