@@ -4,6 +4,7 @@
 pub mod clock;
 pub mod message;
 pub mod octets;
+pub mod origin;
 pub mod reading;
 pub mod refusal;
 pub mod tlv;

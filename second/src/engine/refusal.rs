@@ -10,6 +10,8 @@ pub enum Refusal {
     Stamp = 5,
     Tlv = 6,
     WrBad = 7,
+    Room = 16,
+    Field = 18,
 }
 
 impl Refusal {

@@ -3,16 +3,24 @@
 //! refusal.
 
 use super::lines::LONGEST_LINE;
+use super::message_tokens;
 use super::show;
 use super::tokens::Tokens;
 use crate::engine::clock::{Clock, OwnQuality};
+use crate::engine::message::{Message, MessageType};
+use crate::engine::origin::origin;
 use crate::engine::reading::{look_up, read, read_link_message, read_suffix};
 use crate::engine::refusal::Refusal;
+use crate::engine::writing::write;
 
 /// The answer to a line that is no call.
 pub const BAD_LINE: &str = "bad line";
 /// The answer of a call that has nothing to hand back.
 const OK: &str = "ok";
+/// The greatest buffer that `write` may be given.
+const GREATEST_ROOM: usize = 70_000;
+/// What the buffer holds before a message is written.
+const UNWRITTEN: u8 = 0xa5;
 
 /// What a line, without its newline, answers; none for an empty line and a
 /// comment.  The clock becomes what the call makes of it.
@@ -39,6 +47,8 @@ fn call(clock: &mut Clock, mut tokens: Tokens) -> Option<String> {
         b"lookup" => answer_lookup(clock, tokens),
         b"suffix" => answer_suffix(clock, tokens),
         b"linkmessage" => answer_link_message(clock, tokens),
+        b"write" => answer_write(clock, tokens),
+        b"origin" => answer_origin(clock, tokens),
         _ => None,
     }
 }
@@ -137,4 +147,42 @@ fn answer_link_message(clock: &Clock, mut tokens: Tokens) -> Option<String> {
     tokens.end()?;
     let result = read_link_message(&octets, clock.magic);
     Some(found(result, show::link_message))
+}
+
+/// `write ROOM TYPE TRANSPORT DOMAIN FLAGS CORRECTION CLOCK PORT SEQUENCE
+/// INTERVAL BODY TAIL`, without a BODY where the type is not listed.
+fn answer_write(clock: &Clock, mut tokens: Tokens) -> Option<String> {
+    let room: usize = tokens.number()?;
+    let message_type = MessageType::from_number(tokens.number()?);
+    let header = message_tokens::header(&mut tokens)?;
+    let body = match message_type {
+        Some(message_type) => Some(message_tokens::body(&mut tokens, message_type)?),
+        None => None,
+    };
+    let tail = tokens.octets()?;
+    tokens.end()?;
+    if room > GREATEST_ROOM {
+        return None;
+    }
+    let mut buffer = vec![UNWRITTEN; room];
+    let written = body.ok_or(Refusal::Field).and_then(|body| {
+        let tail = &tail;
+        write(&Message { header, body, tail }, clock.magic, &mut buffer)
+    });
+    let shown = show::octets(&buffer);
+    Some(match written {
+        Ok(length) => format!("ok {length} {shown}"),
+        Err(refusal) => format!("{} {shown}", refused(refusal)),
+    })
+}
+
+/// `origin SYNC FOLLOW`
+fn answer_origin(clock: &Clock, mut tokens: Tokens) -> Option<String> {
+    let sync = tokens.octets()?;
+    let follow_up = tokens.octets()?;
+    tokens.end()?;
+    Some(match origin(&sync, &follow_up, clock.magic) {
+        Ok(octets) => format!("ok {}", show::octets(octets)),
+        Err(refusal) => refused(refusal),
+    })
 }

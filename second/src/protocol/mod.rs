@@ -2,6 +2,7 @@
 
 pub mod answer;
 pub mod lines;
+pub mod message_tokens;
 pub mod show;
 pub mod tokens;
 #[cfg(test)]

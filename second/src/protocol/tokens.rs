@@ -1,6 +1,8 @@
 //! The tokens of a line, taken from the left as numbers of a type or octets.
 //! Every taking answers none where the line is no call.
 
+use crate::engine::message::PortIdentity;
+
 /// What is left of a line; none once its last token has been taken.
 pub struct Tokens<'a> {
     rest: Option<&'a [u8]>,
@@ -32,6 +34,14 @@ impl<'a> Tokens<'a> {
     /// A number that the type `N` holds.
     pub fn number<N: TryFrom<i128>>(&mut self) -> Option<N> {
         N::try_from(number(self.word()?)?).ok()
+    }
+
+    /// A clock, then a port.
+    pub fn identity(&mut self) -> Option<PortIdentity> {
+        Some(PortIdentity {
+            clock: self.number()?,
+            port: self.number()?,
+        })
     }
 
     /// Octets as pairs of hexadecimal digits, or `-` for none.

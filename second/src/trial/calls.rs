@@ -12,10 +12,12 @@ pub enum Call {
     Lookup,
     Suffix,
     LinkMessage,
+    Write,
+    Origin,
 }
 
 /// Every call with its name.
-pub const CALLS: [(&str, Call); 9] = [
+pub const CALLS: [(&str, Call); 11] = [
     ("fresh", Call::Fresh),
     ("clock", Call::Clock),
     ("domain", Call::Domain),
@@ -25,6 +27,8 @@ pub const CALLS: [(&str, Call); 9] = [
     ("lookup", Call::Lookup),
     ("suffix", Call::Suffix),
     ("linkmessage", Call::LinkMessage),
+    ("write", Call::Write),
+    ("origin", Call::Origin),
 ];
 
 /// How many calls at the front of the list are settings without a port, which

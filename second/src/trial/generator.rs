@@ -4,9 +4,11 @@
 
 use super::calls::Call;
 use super::malformed::{longest, malformed, silent};
+use super::origin_lines::origin_line;
 use super::random::Random;
 use super::reading_lines as reading;
 use super::settings_lines as settings;
+use super::writing_lines::write_line;
 use crate::engine::clock::Clock;
 use crate::protocol::answer::answer;
 
@@ -87,6 +89,8 @@ impl Generator {
             Call::Lookup => reading::lookup_line(random, magic),
             Call::Suffix => reading::suffix_line(random, magic),
             Call::LinkMessage => reading::link_message_line(random, magic),
+            Call::Write => write_line(random, magic),
+            Call::Origin => origin_line(random, magic),
         }
     }
 }

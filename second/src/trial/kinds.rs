@@ -48,6 +48,15 @@ fn kind_of(vector: &Vector) -> String {
         ("lookup", "found") if words[2] == "-" => "found empty".to_string(),
         ("lookup", "found") => "found".to_string(),
         ("linkmessage", "found") => format!("found {}", words[1]),
+        ("write", "ok") => format!("ok type {}", written_type(words[2])),
+        ("write", "refused") => format!("refused {}", words[1]),
+        ("origin", "ok") => "ok".to_string(),
         _ => answer.clone(),
     }
+}
+
+/// The type of the message that written octets begin with.
+fn written_type(octets: &str) -> u32 {
+    let digit = octets.chars().nth(1).unwrap_or_default();
+    digit.to_digit(16).unwrap_or_default()
 }

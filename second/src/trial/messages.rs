@@ -267,12 +267,12 @@ impl Draft {
 }
 
 /// How many TLVs a tail has.
-fn tlv_count(random: &mut Random) -> usize {
+pub fn tlv_count(random: &mut Random) -> usize {
     random.pick(&[0, 0, 0, 1, 1, 1, 1, 2, 2, 3, 4, 6])
 }
 
 /// The White Rabbit messages that a type carries.
-fn usual_numbers(message_type: MessageType) -> &'static [u16] {
+pub fn usual_numbers(message_type: MessageType) -> &'static [u16] {
     match message_type {
         MessageType::Announce => &[ANN_SUFIX],
         _ => tails::link_numbers(),
