@@ -1,14 +1,7 @@
 //! The boundary clock as a host holds it from call to call: its settings.
 
-/// The fields of our own data set that are set.
-#[derive(Clone, Copy, Debug, PartialEq, Eq)]
-pub struct OwnQuality {
-    pub priority1: u8,
-    pub class: u8,
-    pub accuracy: u8,
-    pub variance: u16,
-    pub priority2: u8,
-}
+use super::candidate::Quality;
+use super::comparison::DataSet;
 
 /// The clock with all that stays from one call to the next.
 #[derive(Clone, Debug, PartialEq, Eq)]
@@ -16,7 +9,7 @@ pub struct Clock {
     pub identity: u64,
     pub domain: u8,
     pub magic: u16,
-    pub own: OwnQuality,
+    pub own_quality: Quality,
 }
 
 impl Clock {
@@ -26,7 +19,7 @@ impl Clock {
             identity: 0,
             domain: 0,
             magic: 0xabcd,
-            own: OwnQuality {
+            own_quality: Quality {
                 priority1: 128,
                 class: 248,
                 accuracy: 0xfe,
@@ -34,5 +27,10 @@ impl Clock {
                 priority2: 128,
             },
         }
+    }
+
+    /// Our own data set.
+    pub fn own_set(&self) -> DataSet {
+        DataSet::own(self.own_quality, self.identity)
     }
 }

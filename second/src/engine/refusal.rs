@@ -10,7 +10,10 @@ pub enum Refusal {
     Stamp = 5,
     Tlv = 6,
     WrBad = 7,
+    Port = 8,
+    Unranked = 15,
     Room = 16,
+    Many = 17,
     Field = 18,
 }
 

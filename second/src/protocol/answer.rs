@@ -2,13 +2,18 @@
 //! asks the engine: a line that is no call changes nothing and comes before any
 //! refusal.
 
+use super::candidate_tokens::{candidate, data_set, list, quality};
 use super::lines::LONGEST_LINE;
 use super::message_tokens;
 use super::show;
 use super::tokens::Tokens;
-use crate::engine::clock::{Clock, OwnQuality};
+use crate::engine::candidate::Candidate;
+use crate::engine::clock::Clock;
+use crate::engine::comparison::compare;
+use crate::engine::decision::decide;
 use crate::engine::message::{Message, MessageType};
 use crate::engine::origin::origin;
+use crate::engine::ranking::{merge, rank};
 use crate::engine::reading::{look_up, read, read_link_message, read_suffix};
 use crate::engine::refusal::Refusal;
 use crate::engine::writing::write;
@@ -49,6 +54,10 @@ fn call(clock: &mut Clock, mut tokens: Tokens) -> Option<String> {
         b"linkmessage" => answer_link_message(clock, tokens),
         b"write" => answer_write(clock, tokens),
         b"origin" => answer_origin(clock, tokens),
+        b"compare" => answer_compare(tokens),
+        b"rank" => answer_rank(tokens),
+        b"merge" => answer_merge(tokens),
+        b"decide" => answer_decide(clock, tokens),
         _ => None,
     }
 }
@@ -100,15 +109,9 @@ fn set_magic(clock: &mut Clock, mut tokens: Tokens) -> Option<String> {
 
 /// `own P1 CLASS ACC VAR P2`
 fn set_own(clock: &mut Clock, mut tokens: Tokens) -> Option<String> {
-    let own = OwnQuality {
-        priority1: tokens.number()?,
-        class: tokens.number()?,
-        accuracy: tokens.number()?,
-        variance: tokens.number()?,
-        priority2: tokens.number()?,
-    };
+    let own_quality = quality(&mut tokens)?;
     tokens.end()?;
-    clock.own = own;
+    clock.own_quality = own_quality;
     Some(OK.to_string())
 }
 
@@ -183,6 +186,54 @@ fn answer_origin(clock: &Clock, mut tokens: Tokens) -> Option<String> {
     tokens.end()?;
     Some(match origin(&sync, &follow_up, clock.magic) {
         Ok(octets) => format!("ok {}", show::octets(octets)),
+        Err(refusal) => refused(refusal),
+    })
+}
+
+/// `compare SET SET`
+fn answer_compare(mut tokens: Tokens) -> Option<String> {
+    let a = data_set(&mut tokens)?;
+    let b = data_set(&mut tokens)?;
+    tokens.end()?;
+    Some(show::verdict(compare(&a, &b)).to_string())
+}
+
+/// The answer of a call that hands back a list or is refused.
+fn listed(result: Result<Vec<Candidate>, Refusal>) -> String {
+    match result {
+        Ok(candidates) => format!("ok {}", show::list(&candidates)),
+        Err(refusal) => refused(refusal),
+    }
+}
+
+/// `rank LIST`
+fn answer_rank(mut tokens: Tokens) -> Option<String> {
+    let candidates = list(&mut tokens)?;
+    tokens.end()?;
+    Some(listed(rank(&candidates)))
+}
+
+/// `merge LIST LIST`
+fn answer_merge(mut tokens: Tokens) -> Option<String> {
+    let first = list(&mut tokens)?;
+    let second = list(&mut tokens)?;
+    tokens.end()?;
+    Some(listed(merge(&first, &second)))
+}
+
+/// `decide PORT LIST none` or `decide PORT LIST best CANDIDATE`
+fn answer_decide(clock: &Clock, mut tokens: Tokens) -> Option<String> {
+    let port = tokens.number()?;
+    let ranked = list(&mut tokens)?;
+    let port_best = match tokens.word()? {
+        b"none" => None,
+        b"best" => Some(candidate(&mut tokens)?),
+        _ => return None,
+    };
+    tokens.end()?;
+    let decision = decide(&clock.own_set(), port, &ranked, port_best.as_ref());
+    Some(match decision {
+        Ok(decision) => format!("{decision:?}"),
         Err(refusal) => refused(refusal),
     })
 }

@@ -1,6 +1,7 @@
 //! The line protocol: one call a line in, one answer a line out.
 
 pub mod answer;
+pub mod candidate_tokens;
 pub mod lines;
 pub mod message_tokens;
 pub mod show;

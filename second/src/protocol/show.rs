@@ -1,6 +1,8 @@
 //! Values as answers spell them: a clockIdentity is `0x` and 16 digits, other
 //! numbers are decimal, octets are lower case and `-` where there are none.
 
+use crate::engine::candidate::Candidate;
+use crate::engine::comparison::{Side, Verdict};
 use crate::engine::message::{Announce, Body, Header, Message, PortIdentity, Timestamp};
 use crate::engine::white_rabbit::LinkMessage;
 
@@ -102,4 +104,43 @@ pub fn link_message(message: LinkMessage) -> String {
         }
         _ => number.to_string(),
     }
+}
+
+/// The answer of a comparison.
+pub fn verdict(verdict: Verdict) -> &'static str {
+    match verdict {
+        Verdict::Better(Side::A) => "a",
+        Verdict::Better(Side::B) => "b",
+        Verdict::BetterByTopology(Side::A) => "a-topology",
+        Verdict::BetterByTopology(Side::B) => "b-topology",
+        Verdict::Error1 => "error-1",
+        Verdict::Error2 => "error-2",
+    }
+}
+
+/// A count, then that many candidates.
+pub fn list(candidates: &[Candidate]) -> String {
+    let mut text = candidates.len().to_string();
+    for one in candidates {
+        text.push(' ');
+        text.push_str(&candidate(one));
+    }
+    text
+}
+
+/// A candidate's eleven numbers.
+fn candidate(candidate: &Candidate) -> String {
+    format!(
+        "{} {} {} {} {} {} {} {} {} {}",
+        candidate.quality.priority1,
+        candidate.quality.class,
+        candidate.quality.accuracy,
+        candidate.quality.variance,
+        candidate.quality.priority2,
+        clock(candidate.grandmaster),
+        candidate.steps_removed,
+        identity(candidate.sender),
+        candidate.port,
+        candidate.wr_flags
+    )
 }

@@ -2,6 +2,8 @@
 //! the protocol allows, mostly the plain one.
 
 use super::random::Random;
+use crate::engine::candidate::Quality;
+use crate::engine::message::PortIdentity;
 
 /// The tokens so far.
 pub struct CallLine {
@@ -17,22 +19,37 @@ impl CallLine {
     }
 
     /// The line with one more token.
-    fn token(mut self, token: &str) -> CallLine {
+    pub fn word(mut self, word: &str) -> CallLine {
         self.text.push(b' ');
-        self.text.extend_from_slice(token.as_bytes());
+        self.text.extend_from_slice(word.as_bytes());
         self
     }
 
     /// The line with a number behind it.
     pub fn number(self, random: &mut Random, value: impl Into<i128>) -> CallLine {
         let spelled = spell_number(random, value.into());
-        self.token(&spelled)
+        self.word(&spelled)
+    }
+
+    /// The line with a clock and its port.
+    pub fn identity(self, random: &mut Random, identity: PortIdentity) -> CallLine {
+        self.number(random, identity.clock)
+            .number(random, identity.port)
+    }
+
+    /// The line with a quality's five numbers.
+    pub fn quality(self, random: &mut Random, quality: &Quality) -> CallLine {
+        self.number(random, quality.priority1)
+            .number(random, quality.class)
+            .number(random, quality.accuracy)
+            .number(random, quality.variance)
+            .number(random, quality.priority2)
     }
 
     /// The line with octets behind it.
     pub fn octets(self, random: &mut Random, octets: &[u8]) -> CallLine {
         let spelled = spell_octets(random, octets);
-        self.token(&spelled)
+        self.word(&spelled)
     }
 
     /// The line's characters.
@@ -43,16 +60,20 @@ impl CallLine {
 
 /// A number in one of its spellings.
 fn spell_number(random: &mut Random, value: i128) -> String {
-    let zeros = "0".repeat(random.place(24));
     match random.below(24) {
         0 | 1 if value >= 0 => format!("0x{value:x}"),
         2 if value >= 0 => format!("0x{value:X}"),
-        3 if value >= 0 => format!("0x{zeros}{value:x}"),
-        4 if value >= 0 => format!("{zeros}{value}"),
-        4 => format!("-{zeros}{}", -value),
-        5 if value == 0 => format!("-{zeros}0"),
+        3 if value >= 0 => format!("0x{}{value:x}", zeros(random)),
+        4 if value >= 0 => format!("{}{value}", zeros(random)),
+        4 => format!("-{}{}", zeros(random), -value),
+        5 if value == 0 => format!("-{}0", zeros(random)),
         _ => value.to_string(),
     }
+}
+
+/// None, a few or many zeros.
+fn zeros(random: &mut Random) -> String {
+    "0".repeat(random.place(24))
 }
 
 /// Octets with digits of lower, upper or either case.

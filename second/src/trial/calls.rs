@@ -14,10 +14,14 @@ pub enum Call {
     LinkMessage,
     Write,
     Origin,
+    Compare,
+    Rank,
+    Merge,
+    Decide,
 }
 
 /// Every call with its name.
-pub const CALLS: [(&str, Call); 11] = [
+pub const CALLS: [(&str, Call); 15] = [
     ("fresh", Call::Fresh),
     ("clock", Call::Clock),
     ("domain", Call::Domain),
@@ -29,6 +33,10 @@ pub const CALLS: [(&str, Call); 11] = [
     ("linkmessage", Call::LinkMessage),
     ("write", Call::Write),
     ("origin", Call::Origin),
+    ("compare", Call::Compare),
+    ("rank", Call::Rank),
+    ("merge", Call::Merge),
+    ("decide", Call::Decide),
 ];
 
 /// How many calls at the front of the list are settings without a port, which

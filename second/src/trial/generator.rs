@@ -3,9 +3,11 @@
 //! made of it.
 
 use super::calls::Call;
+use super::comparison_lines::compare_line;
 use super::malformed::{longest, malformed, silent};
 use super::origin_lines::origin_line;
 use super::random::Random;
+use super::ranking_lines::{decide_line, merge_line, rank_line};
 use super::reading_lines as reading;
 use super::settings_lines as settings;
 use super::writing_lines::write_line;
@@ -79,6 +81,7 @@ impl Generator {
     fn line_of(&mut self, call: Call) -> Vec<u8> {
         let random = &mut self.random;
         let magic = self.clock.magic;
+        let own = &self.clock.own_set();
         match call {
             Call::Fresh => settings::fresh_line(),
             Call::Clock => settings::clock_line(random),
@@ -91,6 +94,10 @@ impl Generator {
             Call::LinkMessage => reading::link_message_line(random, magic),
             Call::Write => write_line(random, magic),
             Call::Origin => origin_line(random, magic),
+            Call::Compare => compare_line(random),
+            Call::Rank => rank_line(random, own),
+            Call::Merge => merge_line(random, own),
+            Call::Decide => decide_line(random, own),
         }
     }
 }

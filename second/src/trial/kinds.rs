@@ -51,6 +51,7 @@ fn kind_of(vector: &Vector) -> String {
         ("write", "ok") => format!("ok type {}", written_type(words[2])),
         ("write", "refused") => format!("refused {}", words[1]),
         ("origin", "ok") => "ok".to_string(),
+        ("rank" | "merge", "ok") => format!("ok {} entries", words[1]),
         _ => answer.clone(),
     }
 }

@@ -4,13 +4,16 @@
 
 pub mod call_line;
 pub mod calls;
+pub mod candidates;
 pub mod compare;
+pub mod comparison_lines;
 pub mod generator;
 pub mod kinds;
 pub mod malformed;
 pub mod messages;
 pub mod origin_lines;
 pub mod random;
+pub mod ranking_lines;
 pub mod reading_lines;
 pub mod settings_lines;
 pub mod tails;

@@ -3,6 +3,7 @@
 use super::call_line::CallLine;
 use super::random::Random;
 use super::values;
+use crate::engine::candidate::Quality;
 
 /// `fresh`
 pub fn fresh_line() -> Vec<u8> {
@@ -31,24 +32,18 @@ pub fn magic_line(random: &mut Random) -> Vec<u8> {
 
 /// A line of `own`.
 pub fn own_line(random: &mut Random) -> Vec<u8> {
-    let class = own_class(random);
-    let fields = [
-        random.pick(&[128, 128, 0, 1, 127, 129, 255]),
-        class,
-        random.pick(&[0xfe, 0xfe, 0x20, 0x21, 0, 255]),
-        random.pick(&[0xffff, 0xffff, 0, 1, 0x4e5d, 0xfffe]),
-        random.pick(&[128, 128, 0, 1, 127, 129, 255]),
-    ];
-    fields
-        .into_iter()
-        .fold(CallLine::named("own"), |line, field| {
-            line.number(random, field)
-        })
-        .text()
+    let quality = Quality {
+        priority1: random.pick(&[128, 128, 0, 1, 127, 129, 255]),
+        class: own_class(random),
+        accuracy: random.pick(&[0xfe, 0xfe, 0x20, 0x21, 0, 255]),
+        variance: random.pick(&[0xffff, 0xffff, 0, 1, 0x4e5d, 0xfffe]),
+        priority2: random.pick(&[128, 128, 0, 1, 127, 129, 255]),
+    };
+    CallLine::named("own").quality(random, &quality).text()
 }
 
 /// Our own class, at the edges of 1 to 127 and beyond.
-fn own_class(random: &mut Random) -> i32 {
-    let any = i32::from(values::octet(random));
+fn own_class(random: &mut Random) -> u8 {
+    let any = values::octet(random);
     random.pick(&[248, 248, 248, 0, 1, 6, 127, 128, 255, any])
 }

@@ -6,7 +6,7 @@ use super::messages;
 use super::random::Random;
 use super::tails;
 use crate::engine::message::{
-    Announce, Body, Header, MessageType, PortIdentity, Timestamp, LISTED_TYPES, SECOND,
+    Announce, Body, Header, MessageType, Timestamp, LISTED_TYPES, SECOND,
 };
 
 /// The greatest buffer of the protocol.
@@ -132,12 +132,11 @@ fn room(random: &mut Random, length: usize) -> usize {
 
 /// The line with a header's numbers.
 fn push_header(random: &mut Random, line: CallLine, header: &Header) -> CallLine {
-    let line = line
-        .number(random, header.transport_specific)
+    line.number(random, header.transport_specific)
         .number(random, header.domain)
         .number(random, header.flags)
-        .number(random, header.correction);
-    push_identity(random, line, header.source)
+        .number(random, header.correction)
+        .identity(random, header.source)
         .number(random, header.sequence)
         .number(random, header.log_interval)
 }
@@ -149,14 +148,13 @@ fn push_body(random: &mut Random, line: CallLine, body: &Body) -> CallLine {
             push_timestamp(random, line, stamp)
         }
         Body::DelayResp(stamp, requesting) => {
-            let line = push_timestamp(random, line, stamp);
-            push_identity(random, line, requesting)
+            push_timestamp(random, line, stamp).identity(random, requesting)
         }
         Body::Announce(stamp, ref fields) => {
             let line = push_timestamp(random, line, stamp);
             push_announce(random, line, fields)
         }
-        Body::Signaling(target) => push_identity(random, line, target),
+        Body::Signaling(target) => line.identity(random, target),
     }
 }
 
@@ -171,12 +169,6 @@ fn push_announce(random: &mut Random, line: CallLine, fields: &Announce) -> Call
         .number(random, fields.grandmaster)
         .number(random, fields.steps_removed)
         .number(random, fields.time_source)
-}
-
-/// The line with a clock and its port.
-fn push_identity(random: &mut Random, line: CallLine, identity: PortIdentity) -> CallLine {
-    line.number(random, identity.clock)
-        .number(random, identity.port)
 }
 
 /// The line with seconds and nanoseconds.
