@@ -5,6 +5,7 @@ pub mod candidate;
 pub mod clock;
 pub mod comparison;
 pub mod decision;
+pub mod delay;
 pub mod message;
 pub mod octets;
 pub mod origin;

@@ -11,6 +11,7 @@ pub enum Refusal {
     Tlv = 6,
     WrBad = 7,
     Port = 8,
+    Range = 14,
     Unranked = 15,
     Room = 16,
     Many = 17,

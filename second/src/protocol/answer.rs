@@ -11,6 +11,7 @@ use crate::engine::candidate::Candidate;
 use crate::engine::clock::Clock;
 use crate::engine::comparison::compare;
 use crate::engine::decision::decide;
+use crate::engine::delay::{measure, Exchange, Stamp};
 use crate::engine::message::{Message, MessageType};
 use crate::engine::origin::origin;
 use crate::engine::ranking::{merge, rank};
@@ -58,6 +59,7 @@ fn call(clock: &mut Clock, mut tokens: Tokens) -> Option<String> {
         b"rank" => answer_rank(tokens),
         b"merge" => answer_merge(tokens),
         b"decide" => answer_decide(clock, tokens),
+        b"delay" => answer_delay(tokens),
         _ => None,
     }
 }
@@ -235,5 +237,50 @@ fn answer_decide(clock: &Clock, mut tokens: Tokens) -> Option<String> {
     Some(match decision {
         Ok(decision) => format!("{decision:?}"),
         Err(refusal) => refused(refusal),
+    })
+}
+
+/// `delay T1S T1N SYNC FOLLOW T2S T2N T2F T3S T3N T3F T4S T4N RESP MTX MRX STX
+/// SRX A`
+fn answer_delay(mut tokens: Tokens) -> Option<String> {
+    let exchange = Exchange {
+        t1: whole_stamp(&mut tokens)?,
+        sync_correction: tokens.number()?,
+        follow_up_correction: tokens.number()?,
+        t2: fine_stamp(&mut tokens)?,
+        t3: fine_stamp(&mut tokens)?,
+        t4: whole_stamp(&mut tokens)?,
+        delay_resp_correction: tokens.number()?,
+        master_tx: tokens.number()?,
+        master_rx: tokens.number()?,
+        slave_tx: tokens.number()?,
+        slave_rx: tokens.number()?,
+        asymmetry: tokens.number()?,
+    };
+    tokens.end()?;
+    Some(match measure(&exchange) {
+        Ok(measured) => format!(
+            "ok {} {} {}",
+            measured.delay, measured.offset_seconds, measured.offset_rest
+        ),
+        Err(refusal) => refused(refusal),
+    })
+}
+
+/// A stamp of seconds and nanoseconds.
+fn whole_stamp(tokens: &mut Tokens) -> Option<Stamp> {
+    Some(Stamp {
+        seconds: tokens.number()?,
+        nanoseconds: tokens.number()?,
+        fraction: 0,
+    })
+}
+
+/// A stamp of seconds, nanoseconds and a fraction.
+fn fine_stamp(tokens: &mut Tokens) -> Option<Stamp> {
+    Some(Stamp {
+        seconds: tokens.number()?,
+        nanoseconds: tokens.number()?,
+        fraction: tokens.number()?,
     })
 }

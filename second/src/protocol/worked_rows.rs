@@ -53,6 +53,26 @@ fn row_9_many_steps_lose_to_none() {
     assert_eq!(only(&format!("compare {many} {none}")), "b");
 }
 
+/// The answer to an exchange of which all is 0 but M - D and the asymmetry.
+fn delay_of(in_medium: i64, asymmetry: i64) -> String {
+    only(&format!(
+        "delay 0 0 0 0 0 0 0 0 0 0 0 0 {} 0 0 0 0 {asymmetry}",
+        -in_medium
+    ))
+}
+
+#[test]
+fn rows_10_and_11_the_asymmetrys_quotient_is_rounded_down() {
+    assert_eq!(delay_of(10, 1 << 38), "ok 5 -1 65535999999995");
+    assert_eq!(delay_of(-1, 1 << 38), "ok -1 0 1");
+}
+
+#[test]
+fn latencies_are_added_before_they_are_divided() {
+    let line = "delay 0 0 0 0 0 0 0 0 0 0 0 0 -3 999 999 999 999 0";
+    assert_eq!(only(line), "ok 1 -1 65535999999999");
+}
+
 #[test]
 fn row_12_nothing_ranked_is_nothing() {
     assert_eq!(only("rank 0"), "ok 0");

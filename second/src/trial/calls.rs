@@ -18,10 +18,11 @@ pub enum Call {
     Rank,
     Merge,
     Decide,
+    Delay,
 }
 
 /// Every call with its name.
-pub const CALLS: [(&str, Call); 15] = [
+pub const CALLS: [(&str, Call); 16] = [
     ("fresh", Call::Fresh),
     ("clock", Call::Clock),
     ("domain", Call::Domain),
@@ -37,6 +38,7 @@ pub const CALLS: [(&str, Call); 15] = [
     ("rank", Call::Rank),
     ("merge", Call::Merge),
     ("decide", Call::Decide),
+    ("delay", Call::Delay),
 ];
 
 /// How many calls at the front of the list are settings without a port, which

@@ -4,6 +4,7 @@
 
 use super::calls::Call;
 use super::comparison_lines::compare_line;
+use super::delay_lines::delay_line;
 use super::malformed::{longest, malformed, silent};
 use super::origin_lines::origin_line;
 use super::random::Random;
@@ -98,6 +99,7 @@ impl Generator {
             Call::Rank => rank_line(random, own),
             Call::Merge => merge_line(random, own),
             Call::Decide => decide_line(random, own),
+            Call::Delay => delay_line(random),
         }
     }
 }

@@ -52,6 +52,12 @@ fn kind_of(vector: &Vector) -> String {
         ("write", "refused") => format!("refused {}", words[1]),
         ("origin", "ok") => "ok".to_string(),
         ("rank" | "merge", "ok") => format!("ok {} entries", words[1]),
+        ("delay", "ok") => format!(
+            "ok delay {} offset {} rest {}",
+            sign_of(words[1]),
+            sign_of(words[2]),
+            rest_kind(words[3])
+        ),
         _ => answer.clone(),
     }
 }
@@ -60,4 +66,22 @@ fn kind_of(vector: &Vector) -> String {
 fn written_type(octets: &str) -> u32 {
     let digit = octets.chars().nth(1).unwrap_or_default();
     digit.to_digit(16).unwrap_or_default()
+}
+
+/// Whether a number is negative, zero or positive.
+fn sign_of(number: &str) -> &'static str {
+    match number {
+        "0" => "0",
+        _ if number.starts_with('-') => "-",
+        _ => "+",
+    }
+}
+
+/// Whether an offset's rest is at one of its ends.
+fn rest_kind(rest: &str) -> &'static str {
+    match rest {
+        "0" => "least",
+        "65535999999999" => "greatest",
+        _ => "between",
+    }
 }

@@ -7,6 +7,7 @@ pub mod calls;
 pub mod candidates;
 pub mod compare;
 pub mod comparison_lines;
+pub mod delay_lines;
 pub mod generator;
 pub mod kinds;
 pub mod malformed;
