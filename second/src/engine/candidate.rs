@@ -4,6 +4,8 @@
 use super::message::PortIdentity;
 use super::refusal::{refuse_if, Refusal};
 
+/// How many ports the clock has.
+pub const PORT_COUNT: usize = 18;
 /// The lowest and the greatest port of the clock.
 const PORTS: std::ops::RangeInclusive<u8> = 1..=18;
 

@@ -6,6 +6,7 @@ pub mod clock;
 pub mod comparison;
 pub mod decision;
 pub mod delay;
+pub mod link;
 pub mod message;
 pub mod octets;
 pub mod origin;

@@ -4,6 +4,7 @@
 
 use super::candidate_tokens::{candidate, data_set, list, quality};
 use super::lines::LONGEST_LINE;
+use super::link_tokens::{link_event, link_settings};
 use super::message_tokens;
 use super::show;
 use super::tokens::Tokens;
@@ -60,6 +61,8 @@ fn call(clock: &mut Clock, mut tokens: Tokens) -> Option<String> {
         b"merge" => answer_merge(tokens),
         b"decide" => answer_decide(clock, tokens),
         b"delay" => answer_delay(tokens),
+        b"linksettings" => answer_link_settings(clock, tokens),
+        b"link" => answer_link(clock, tokens),
         _ => None,
     }
 }
@@ -282,5 +285,32 @@ fn fine_stamp(tokens: &mut Tokens) -> Option<Stamp> {
         seconds: tokens.number()?,
         nanoseconds: tokens.number()?,
         fraction: tokens.number()?,
+    })
+}
+
+/// The answer of a setting that may be refused.
+fn set(result: Result<(), Refusal>) -> String {
+    match result {
+        Ok(()) => OK.to_string(),
+        Err(refusal) => refused(refusal),
+    }
+}
+
+/// `linksettings PORT CONFIG CALIBRATE RETRY PERIOD TX RX`
+fn answer_link_settings(clock: &mut Clock, mut tokens: Tokens) -> Option<String> {
+    let port = tokens.number()?;
+    let settings = link_settings(&mut tokens)?;
+    tokens.end()?;
+    Some(set(clock.set_link(port, settings)))
+}
+
+/// `link PORT EVENT`
+fn answer_link(clock: &mut Clock, mut tokens: Tokens) -> Option<String> {
+    let port = tokens.number()?;
+    let event = link_event(&mut tokens)?;
+    tokens.end()?;
+    Some(match clock.step_link(port, event) {
+        Ok(step) => format!("ok {}", show::link_step(&step)),
+        Err(refusal) => refused(refusal),
     })
 }

@@ -3,6 +3,7 @@
 pub mod answer;
 pub mod candidate_tokens;
 pub mod lines;
+pub mod link_tokens;
 pub mod message_tokens;
 pub mod show;
 pub mod tokens;

@@ -3,6 +3,7 @@
 
 use crate::engine::candidate::Candidate;
 use crate::engine::comparison::{Side, Verdict};
+use crate::engine::link::{LinkState, Step};
 use crate::engine::message::{Announce, Body, Header, Message, PortIdentity, Timestamp};
 use crate::engine::white_rabbit::LinkMessage;
 
@@ -143,4 +144,35 @@ fn candidate(candidate: &Candidate) -> String {
         candidate.port,
         candidate.wr_flags
     )
+}
+
+/// STATE MODE RETRIES REPORT N, then the N messages sent.
+pub fn link_step(step: &Step) -> String {
+    let mut text = format!(
+        "{} {} {} {} {}",
+        link_state(step.link.state),
+        u8::from(step.link.mode_on),
+        step.link.retries,
+        u8::from(step.reports_link_on),
+        step.sent.len()
+    );
+    for &message in &step.sent {
+        text.push(' ');
+        text.push_str(&link_message(message));
+    }
+    text
+}
+
+/// A link state's name.
+fn link_state(state: LinkState) -> &'static str {
+    match state {
+        LinkState::Idle => "idle",
+        LinkState::Present => "present",
+        LinkState::MLock => "m-lock",
+        LinkState::SLock => "s-lock",
+        LinkState::Locked => "locked",
+        LinkState::Calibration(_) => "calibration",
+        LinkState::Calibrated(_) => "calibrated",
+        LinkState::RespCalibReq(_) => "resp-calib-req",
+    }
 }

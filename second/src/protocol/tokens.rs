@@ -36,6 +36,15 @@ impl<'a> Tokens<'a> {
         N::try_from(number(self.word()?)?).ok()
     }
 
+    /// A number that is 0 or 1.
+    pub fn flag(&mut self) -> Option<bool> {
+        match self.number::<u64>()? {
+            0 => Some(false),
+            1 => Some(true),
+            _ => None,
+        }
+    }
+
     /// A clock, then a port.
     pub fn identity(&mut self) -> Option<PortIdentity> {
         Some(PortIdentity {

@@ -19,10 +19,12 @@ pub enum Call {
     Merge,
     Decide,
     Delay,
+    LinkSettings,
+    Link,
 }
 
 /// Every call with its name.
-pub const CALLS: [(&str, Call); 16] = [
+pub const CALLS: [(&str, Call); 18] = [
     ("fresh", Call::Fresh),
     ("clock", Call::Clock),
     ("domain", Call::Domain),
@@ -39,6 +41,8 @@ pub const CALLS: [(&str, Call); 16] = [
     ("merge", Call::Merge),
     ("decide", Call::Decide),
     ("delay", Call::Delay),
+    ("linksettings", Call::LinkSettings),
+    ("link", Call::Link),
 ];
 
 /// How many calls at the front of the list are settings without a port, which

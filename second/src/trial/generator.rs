@@ -5,6 +5,7 @@
 use super::calls::Call;
 use super::comparison_lines::compare_line;
 use super::delay_lines::delay_line;
+use super::link_lines::{link_lines, link_settings_line, Wires};
 use super::malformed::{longest, malformed, silent};
 use super::origin_lines::origin_line;
 use super::random::Random;
@@ -14,6 +15,7 @@ use super::settings_lines as settings;
 use super::writing_lines::write_line;
 use crate::engine::clock::Clock;
 use crate::protocol::answer::answer;
+use std::collections::VecDeque;
 
 /// A line, without its newline, and what it answers, if anything.
 pub struct Vector {
@@ -26,6 +28,9 @@ pub struct Generator {
     random: Random,
     calls: Vec<Call>,
     clock: Clock,
+    wires: Wires,
+    /// Lines that are to come next.
+    coming: VecDeque<Vec<u8>>,
 }
 
 impl Generator {
@@ -35,19 +40,25 @@ impl Generator {
             random: Random::new(seed),
             calls,
             clock: Clock::fresh(),
+            wires: Wires::default(),
+            coming: VecDeque::new(),
         }
     }
 
     /// The next line and its answer.
     pub fn next_vector(&mut self) -> Vector {
-        let line = self.line();
+        let line = self.next_line();
         let answer = answer(&mut self.clock, &line);
         Vector { line, answer }
     }
 
-    /// The next line: mostly a call that was asked for, else a setting, a line
-    /// that is one step from a call, or one that answers nothing.
-    fn line(&mut self) -> Vec<u8> {
+    /// The next line: one that is to come, or mostly a call that was asked for,
+    /// else a setting, a line that is one step from a call, or one that answers
+    /// nothing.
+    fn next_line(&mut self) -> Vec<u8> {
+        if let Some(line) = self.coming.pop_front() {
+            return line;
+        }
         match self.random.below(1000) {
             0..=29 => self.setting(),
             30..=69 => {
@@ -60,21 +71,26 @@ impl Generator {
         }
     }
 
-    /// A line of a setting, whatever was asked for.
+    /// A line of a setting without a port, whatever was asked for.
     fn setting(&mut self) -> Vec<u8> {
-        let call = match self.random.below(16) {
+        let call = match self.random.below(64) {
             0 => Call::Fresh,
-            1..=3 => Call::Clock,
-            4..=6 => Call::Domain,
-            7..=11 => Call::Magic,
+            1..=12 => Call::Clock,
+            13..=24 => Call::Domain,
+            25..=45 => Call::Magic,
             _ => Call::Own,
         };
         self.line_of(call)
     }
 
-    /// A line of one of the calls that were asked for.
+    /// A line of one of the calls that were asked for, or of one that it needs
+    /// beside it.
     fn asked_for(&mut self) -> Vec<u8> {
         let call = self.random.pick(&self.calls);
+        let call = match call {
+            Call::Link if self.random.chance(1, 10) => Call::LinkSettings,
+            _ => call,
+        };
         self.line_of(call)
     }
 
@@ -100,6 +116,12 @@ impl Generator {
             Call::Merge => merge_line(random, own),
             Call::Decide => decide_line(random, own),
             Call::Delay => delay_line(random),
+            Call::LinkSettings => link_settings_line(random),
+            Call::Link => {
+                let mut lines = link_lines(random, &self.clock, &mut self.wires);
+                self.coming.extend(lines.drain(1..));
+                lines.remove(0)
+            }
         }
     }
 }

@@ -51,6 +51,10 @@ fn kind_of(vector: &Vector) -> String {
         ("write", "ok") => format!("ok type {}", written_type(words[2])),
         ("write", "refused") => format!("refused {}", words[1]),
         ("origin", "ok") => "ok".to_string(),
+        ("link", "ok") => format!(
+            "ok {} retries {} report {} sent {}",
+            words[1], words[3], words[4], words[5]
+        ),
         ("rank" | "merge", "ok") => format!("ok {} entries", words[1]),
         ("delay", "ok") => format!(
             "ok delay {} offset {} rest {}",

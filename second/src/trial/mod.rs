@@ -10,6 +10,7 @@ pub mod comparison_lines;
 pub mod delay_lines;
 pub mod generator;
 pub mod kinds;
+pub mod link_lines;
 pub mod malformed;
 pub mod messages;
 pub mod origin_lines;
