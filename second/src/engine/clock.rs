@@ -1,10 +1,13 @@
-//! The boundary clock as a host holds it from call to call: its settings and
-//! the links of its eighteen ports.
+//! The boundary clock as a host holds it from call to call: its settings, and
+//! the sender records and links of its eighteen ports.
 
-use super::candidate::{check_port, Quality, PORT_COUNT};
+use super::candidate::{check_port, Candidate, Quality, PORT_COUNT};
 use super::comparison::DataSet;
 use super::link::{Link, LinkEvent, LinkSettings, Step};
-use super::refusal::Refusal;
+use super::message::Body;
+use super::reading::{read, read_suffix};
+use super::refusal::{refuse_if, Refusal};
+use super::senders::{Announced, Senders};
 
 /// The clock with all that stays from one call to the next.
 #[derive(Clone, Debug)]
@@ -13,6 +16,7 @@ pub struct Clock {
     pub domain: u8,
     pub magic: u16,
     pub own_quality: Quality,
+    senders: [Senders; PORT_COUNT],
     links: [Link; PORT_COUNT],
     link_settings: [LinkSettings; PORT_COUNT],
 }
@@ -36,6 +40,7 @@ impl Clock {
                 variance: 0xffff,
                 priority2: 128,
             },
+            senders: [Senders::fresh(); PORT_COUNT],
             links: [Link::fresh(); PORT_COUNT],
             link_settings: [LinkSettings::default(); PORT_COUNT],
         }
@@ -44,6 +49,61 @@ impl Clock {
     /// Our own data set.
     pub fn own_set(&self) -> DataSet {
         DataSet::own(self.own_quality, self.identity)
+    }
+
+    /// The sender records of a port: 8.
+    pub fn senders(&self, port: u8) -> Result<&Senders, Refusal> {
+        check_port(port)?;
+        Ok(&self.senders[place(port)])
+    }
+
+    /// The sender records of port 1.
+    pub fn first_port(&self) -> &Senders {
+        &self.senders[0]
+    }
+
+    /// Sets a port's announce interval: 8, then 18.
+    pub fn set_interval(&mut self, port: u8, log_interval: i8) -> Result<(), Refusal> {
+        check_port(port)?;
+        self.senders[place(port)].set_interval(log_interval)
+    }
+
+    /// Takes an Announce that a port received at a time: 8, the reading checks,
+    /// 3 if it is no Announce, 9, 10, then 11, 12, 13.
+    pub fn take(&mut self, port: u8, time: u64, lent: &[u8]) -> Result<(), Refusal> {
+        check_port(port)?;
+        let announced = self.announced(lent)?;
+        self.senders[place(port)].take(time, announced)
+    }
+
+    /// What an Announce in our domain and from another clock tells.
+    fn announced(&self, lent: &[u8]) -> Result<Announced, Refusal> {
+        let message = read(lent, self.magic)?;
+        let Body::Announce(_, fields) = message.body else {
+            return Err(Refusal::Type);
+        };
+        let header = message.header;
+        refuse_if(header.domain != self.domain, Refusal::Domain)?;
+        refuse_if(header.source.clock == self.identity, Refusal::Own)?;
+        Ok(Announced {
+            sender: header.source,
+            sequence: header.sequence,
+            quality: Quality {
+                priority1: fields.priority1,
+                class: fields.class,
+                accuracy: fields.accuracy,
+                variance: fields.variance,
+                priority2: fields.priority2,
+            },
+            grandmaster: fields.grandmaster,
+            steps_removed: fields.steps_removed,
+            wr_flags: read_suffix(lent, self.magic)?.unwrap_or(0),
+        })
+    }
+
+    /// A port's candidates at a time: 8, then 11.
+    pub fn candidates(&self, port: u8, time: u64) -> Result<Vec<Candidate>, Refusal> {
+        self.senders(port)?.candidates(port, time)
     }
 
     /// The link of a port that the clock has.

@@ -13,6 +13,7 @@ pub mod origin;
 pub mod ranking;
 pub mod reading;
 pub mod refusal;
+pub mod senders;
 pub mod tlv;
 pub mod white_rabbit;
 pub mod writing;

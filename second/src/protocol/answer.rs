@@ -63,6 +63,10 @@ fn call(clock: &mut Clock, mut tokens: Tokens) -> Option<String> {
         b"delay" => answer_delay(tokens),
         b"linksettings" => answer_link_settings(clock, tokens),
         b"link" => answer_link(clock, tokens),
+        b"interval" => answer_interval(clock, tokens),
+        b"take" => answer_take(clock, tokens),
+        b"candidates" => answer_candidates(clock, tokens),
+        b"records" => answer_records(clock, tokens),
         _ => None,
     }
 }
@@ -288,8 +292,8 @@ fn fine_stamp(tokens: &mut Tokens) -> Option<Stamp> {
     })
 }
 
-/// The answer of a setting that may be refused.
-fn set(result: Result<(), Refusal>) -> String {
+/// The answer of a call that changes the clock or is refused.
+fn done(result: Result<(), Refusal>) -> String {
     match result {
         Ok(()) => OK.to_string(),
         Err(refusal) => refused(refusal),
@@ -301,7 +305,7 @@ fn answer_link_settings(clock: &mut Clock, mut tokens: Tokens) -> Option<String>
     let port = tokens.number()?;
     let settings = link_settings(&mut tokens)?;
     tokens.end()?;
-    Some(set(clock.set_link(port, settings)))
+    Some(done(clock.set_link(port, settings)))
 }
 
 /// `link PORT EVENT`
@@ -311,6 +315,41 @@ fn answer_link(clock: &mut Clock, mut tokens: Tokens) -> Option<String> {
     tokens.end()?;
     Some(match clock.step_link(port, event) {
         Ok(step) => format!("ok {}", show::link_step(&step)),
+        Err(refusal) => refused(refusal),
+    })
+}
+
+/// `interval PORT K`
+fn answer_interval(clock: &mut Clock, mut tokens: Tokens) -> Option<String> {
+    let port = tokens.number()?;
+    let log_interval = tokens.number()?;
+    tokens.end()?;
+    Some(done(clock.set_interval(port, log_interval)))
+}
+
+/// `take PORT TIME OCTETS`
+fn answer_take(clock: &mut Clock, mut tokens: Tokens) -> Option<String> {
+    let port = tokens.number()?;
+    let time = tokens.number()?;
+    let octets = tokens.octets()?;
+    tokens.end()?;
+    Some(done(clock.take(port, time, &octets)))
+}
+
+/// `candidates PORT TIME`
+fn answer_candidates(clock: &Clock, mut tokens: Tokens) -> Option<String> {
+    let port = tokens.number()?;
+    let time = tokens.number()?;
+    tokens.end()?;
+    Some(listed(clock.candidates(port, time)))
+}
+
+/// `records PORT`
+fn answer_records(clock: &Clock, mut tokens: Tokens) -> Option<String> {
+    let port = tokens.number()?;
+    tokens.end()?;
+    Some(match clock.senders(port) {
+        Ok(senders) => format!("ok {}", show::records(senders)),
         Err(refusal) => refused(refusal),
     })
 }

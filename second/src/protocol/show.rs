@@ -5,6 +5,7 @@ use crate::engine::candidate::Candidate;
 use crate::engine::comparison::{Side, Verdict};
 use crate::engine::link::{LinkState, Step};
 use crate::engine::message::{Announce, Body, Header, Message, PortIdentity, Timestamp};
+use crate::engine::senders::{Record, Senders};
 use crate::engine::white_rabbit::LinkMessage;
 
 /// Octets.
@@ -175,4 +176,30 @@ fn link_state(state: LinkState) -> &'static str {
         LinkState::Calibrated(_) => "calibrated",
         LinkState::RespCalibReq(_) => "resp-calib-req",
     }
+}
+
+/// LAST K N, then the N slots that ever held a record.
+pub fn records(senders: &Senders) -> String {
+    let mut text = format!(
+        "{} {} {}",
+        senders.last_time,
+        senders.log_interval,
+        senders.held().count()
+    );
+    for (slot, held) in senders.held() {
+        text.push_str(&format!(" {slot} {}", record(&held)));
+    }
+    text
+}
+
+/// CLOCK PORT SEQUENCE RECEIPTS NEWEST OLDER
+fn record(record: &Record) -> String {
+    format!(
+        "{} {} {} {} {}",
+        identity(record.announced.sender),
+        record.announced.sequence,
+        1 + u8::from(record.older.is_some()),
+        record.newest,
+        record.older.unwrap_or(0)
+    )
 }

@@ -46,6 +46,67 @@ fn row_2_an_odd_length_is_refused() {
     );
 }
 
+/// The answers to a history on port 1 and a question at its end.
+fn history(receipts: &[(u64, u16)], question: &str) -> Vec<String> {
+    let mut lines = vec!["clock 9".to_string()];
+    for (time, sequence) in receipts {
+        lines.push(format!("take 1 {time} {}", announce(1, *sequence, "")));
+    }
+    lines.push(question.to_string());
+    let lines: Vec<&str> = lines.iter().map(String::as_str).collect();
+    answers(&lines)
+}
+
+/// The candidates' count after receipts at 0 and one second.
+fn qualified_at(time: u64) -> String {
+    let receipts = [(0, 1), (1_000_000_000, 2)];
+    let answers = history(&receipts, &format!("candidates 1 {time}"));
+    answers[3][..4].to_string()
+}
+
+#[test]
+fn rows_3_and_4_qualified_to_the_end_of_the_window() {
+    assert_eq!(qualified_at(4_000_000_000), "ok 1");
+    assert_eq!(qualified_at(4_000_000_001), "ok 0");
+}
+
+/// The answer to an Announce of an old sequenceId, refused while its record is
+/// live.
+fn repeated_at(time: u64) -> String {
+    let receipts = [(0, 1), (1_000_000_000, 2), (time, 2)];
+    history(&receipts, "records 1").remove(3)
+}
+
+#[test]
+fn rows_5_and_6_live_to_the_end_of_the_window() {
+    assert_eq!(repeated_at(5_000_000_000), "refused 12");
+    assert_eq!(repeated_at(5_000_000_001), "ok");
+}
+
+#[test]
+fn rows_7_and_8_sequences_run_around() {
+    assert_eq!(history(&[(0, 65_535), (0, 0)], "records 1")[2], "ok");
+    let stale = history(&[(0, 0), (0, 32_768)], "records 1");
+    assert_eq!(stale[2], "refused 12");
+    assert_eq!(stale[3], "ok 0 0 1 0 0x0000000000000001 1 0 1 0 0");
+}
+
+#[test]
+fn a_seventeenth_sender_waits_for_an_expired_slot() {
+    let mut lines = vec!["clock 99".to_string()];
+    for sender in 0..17 {
+        lines.push(format!("take 1 {sender} {}", announce(sender, 7, "")));
+    }
+    lines.push(format!("take 1 4000000001 {}", announce(16, 7, SUFFIX)));
+    lines.push("records 1".to_string());
+    let lines: Vec<&str> = lines.iter().map(String::as_str).collect();
+    let answers = answers(&lines);
+    assert_eq!(answers[17], "refused 13");
+    assert_eq!(answers[18], "ok");
+    let beginning = "ok 4000000001 0 16 0 0x0000000000000010 1 7 1 4000000001 0 1 ";
+    assert!(answers[19].starts_with(beginning));
+}
+
 #[test]
 fn row_9_many_steps_lose_to_none() {
     let many = "1 1 1 1 1 7 65535 1 1 2 2";

@@ -21,10 +21,14 @@ pub enum Call {
     Delay,
     LinkSettings,
     Link,
+    Interval,
+    Take,
+    Candidates,
+    Records,
 }
 
 /// Every call with its name.
-pub const CALLS: [(&str, Call); 18] = [
+pub const CALLS: [(&str, Call); 22] = [
     ("fresh", Call::Fresh),
     ("clock", Call::Clock),
     ("domain", Call::Domain),
@@ -43,6 +47,10 @@ pub const CALLS: [(&str, Call); 18] = [
     ("delay", Call::Delay),
     ("linksettings", Call::LinkSettings),
     ("link", Call::Link),
+    ("interval", Call::Interval),
+    ("take", Call::Take),
+    ("candidates", Call::Candidates),
+    ("records", Call::Records),
 ];
 
 /// How many calls at the front of the list are settings without a port, which

@@ -5,6 +5,7 @@
 use super::calls::Call;
 use super::comparison_lines::compare_line;
 use super::delay_lines::delay_line;
+use super::history_lines as history;
 use super::link_lines::{link_lines, link_settings_line, Wires};
 use super::malformed::{longest, malformed, silent};
 use super::origin_lines::origin_line;
@@ -15,6 +16,7 @@ use super::settings_lines as settings;
 use super::writing_lines::write_line;
 use crate::engine::clock::Clock;
 use crate::protocol::answer::answer;
+use crate::protocol::tokens::Tokens;
 use std::collections::VecDeque;
 
 /// A line, without its newline, and what it answers, if anything.
@@ -49,7 +51,14 @@ impl Generator {
     pub fn next_vector(&mut self) -> Vector {
         let line = self.next_line();
         let answer = answer(&mut self.clock, &line);
-        Vector { line, answer }
+        let vector = Vector { line, answer };
+        if self.calls.contains(&Call::Records) {
+            if let Some(port) = refused_to_take(&vector) {
+                let records = history::records_line(&mut self.random, port);
+                self.coming.push_back(records);
+            }
+        }
+        vector
     }
 
     /// The next line: one that is to come, or mostly a call that was asked for,
@@ -87,11 +96,16 @@ impl Generator {
     /// beside it.
     fn asked_for(&mut self) -> Vec<u8> {
         let call = self.random.pick(&self.calls);
-        let call = match call {
-            Call::Link if self.random.chance(1, 10) => Call::LinkSettings,
+        let share = self.random.below(40);
+        let beside = match call {
+            Call::Link if share < 4 => Call::LinkSettings,
+            Call::Take if share < 1 => Call::Interval,
+            Call::Candidates | Call::Records if share < 20 => Call::Take,
+            Call::Candidates | Call::Records if share < 21 => Call::Interval,
+            Call::Interval if share < 30 && self.calls.contains(&Call::Take) => Call::Take,
             _ => call,
         };
-        self.line_of(call)
+        self.line_of(beside)
     }
 
     /// A line of a call.
@@ -122,6 +136,17 @@ impl Generator {
                 self.coming.extend(lines.drain(1..));
                 lines.remove(0)
             }
+            Call::Interval => history::interval_line(random),
+            Call::Take => history::take_line(random, &self.clock),
+            Call::Candidates => history::candidates_line(random, &self.clock),
+            Call::Records => history::any_records_line(random),
         }
     }
+}
+
+/// The port of a line of `take` that was refused.
+fn refused_to_take(vector: &Vector) -> Option<u8> {
+    let mut tokens = Tokens::of(&vector.line);
+    let refused = vector.answer.as_ref()?.starts_with("refused");
+    (refused && tokens.word()? == b"take").then(|| tokens.number())?
 }

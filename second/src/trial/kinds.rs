@@ -55,6 +55,8 @@ fn kind_of(vector: &Vector) -> String {
             "ok {} retries {} report {} sent {}",
             words[1], words[3], words[4], words[5]
         ),
+        ("candidates", "ok") => format!("ok {} entries", words[1]),
+        ("records", "ok") => format!("ok {} slots", words[3]),
         ("rank" | "merge", "ok") => format!("ok {} entries", words[1]),
         ("delay", "ok") => format!(
             "ok delay {} offset {} rest {}",

@@ -9,6 +9,7 @@ pub mod compare;
 pub mod comparison_lines;
 pub mod delay_lines;
 pub mod generator;
+pub mod history_lines;
 pub mod kinds;
 pub mod link_lines;
 pub mod malformed;
