@@ -54,7 +54,10 @@ pub fn decide(
 
 /// Whether our set beats a port's best; anything beats an absent one.
 fn beats_erbest(own: &DataSet, erbest: Option<&DataSet>) -> bool {
-    erbest.map_or(true, |erbest| compare(own, erbest).a_wins())
+    match erbest {
+        Some(erbest) => compare(own, erbest).a_wins(),
+        None => true,
+    }
 }
 
 /// Whether Ebest is better by topology than a port's best; an absent one is not

@@ -26,7 +26,7 @@ pub fn write(message: &Message, magic: u16, room: &mut [u8]) -> Result<usize, Re
 /// would refuse nothing.
 fn can_be_written(message: &Message, magic: u16) -> bool {
     message.header.transport_specific < 16
-        && timestamp_of(&message.body).map_or(true, timestamp_fits)
+        && timestamp_of(&message.body).iter().all(timestamp_fits)
         && message.body.message_type().fixed_size() + message.tail.len() <= LONGEST
         && tail_would_be_read(message.tail, magic)
 }
@@ -41,7 +41,7 @@ fn timestamp_of(body: &Body) -> Option<Timestamp> {
 }
 
 /// Whether a timestamp fits its octets and reading would take it.
-fn timestamp_fits(stamp: Timestamp) -> bool {
+fn timestamp_fits(stamp: &Timestamp) -> bool {
     stamp.seconds < SECONDS_END && stamp.nanoseconds < SECOND
 }
 

@@ -92,7 +92,7 @@ fn time(random: &mut Random) -> i128 {
 /// The stamp of a time, brought within what stamps can hold.
 fn stamp(time: i128) -> Stamp {
     let time = time.clamp(0, END_OF_TIME - 1);
-    let nanoseconds = time % SCALED_SECOND >> 16;
+    let nanoseconds = (time % SCALED_SECOND) >> 16;
     Stamp {
         seconds: (time / SCALED_SECOND) as u64,
         nanoseconds: nanoseconds as u32,

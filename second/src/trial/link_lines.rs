@@ -144,7 +144,7 @@ fn awaited(random: &mut Random, state: LinkState) -> LinkEvent {
 /// hardware that is done, a start where both are idle, a timeout where nothing
 /// else can happen; now and then a timeout, a stop or anything out of turn.
 fn talk(random: &mut Random, clock: &Clock, wires: &mut Wires) -> (u8, LinkEvent) {
-    let master = busy_port(random) - 1 | 1;
+    let master = (busy_port(random) - 1) | 1;
     let pair = [master, master + 1];
     let either = random.pick(&pair);
     match random.below(60) {
