@@ -75,7 +75,7 @@ impl Generator {
                 malformed(&mut self.random, line)
             }
             70..=74 => silent(&mut self.random),
-            75 if self.random.chance(1, 20) => longest(&mut self.random),
+            75 if self.random.chance(1, 6) => longest(&mut self.random),
             _ => self.asked_for(),
         }
     }

@@ -71,7 +71,7 @@ fn spoil_timestamp(random: &mut Random, body: &mut Body) {
 /// A tail, sound three times out of four, now and then as long as a message
 /// can be.
 fn tail(random: &mut Random, magic: u16, message_type: MessageType) -> Vec<u8> {
-    if random.chance(1, 1000) {
+    if random.chance(1, 500) {
         return longest_tail(random, message_type);
     }
     let usual = messages::usual_numbers(message_type);
