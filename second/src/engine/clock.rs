@@ -1,0 +1,134 @@
+//! The boundary clock as a host holds it from call to call: its settings, and
+//! the sender records and links of its eighteen ports.
+
+use super::candidate::{check_port, Candidate, Quality, PORT_COUNT};
+use super::comparison::DataSet;
+use super::link::{Link, LinkEvent, LinkSettings, Step};
+use super::message::Body;
+use super::reading::{read, read_suffix};
+use super::refusal::{refuse_if, Refusal};
+use super::senders::{Announced, Senders};
+
+/// The clock with all that stays from one call to the next.
+#[derive(Clone, Debug)]
+pub struct Clock {
+    pub identity: u64,
+    pub domain: u8,
+    pub magic: u16,
+    pub own_quality: Quality,
+    senders: [Senders; PORT_COUNT],
+    links: [Link; PORT_COUNT],
+    link_settings: [LinkSettings; PORT_COUNT],
+}
+
+/// The place of a port that the clock has.
+fn place(port: u8) -> usize {
+    usize::from(port) - 1
+}
+
+impl Clock {
+    /// A clock of which nothing has been set and to which nothing has happened.
+    pub fn fresh() -> Clock {
+        Clock {
+            identity: 0,
+            domain: 0,
+            magic: 0xabcd,
+            own_quality: Quality {
+                priority1: 128,
+                class: 248,
+                accuracy: 0xfe,
+                variance: 0xffff,
+                priority2: 128,
+            },
+            senders: [Senders::fresh(); PORT_COUNT],
+            links: [Link::fresh(); PORT_COUNT],
+            link_settings: [LinkSettings::default(); PORT_COUNT],
+        }
+    }
+
+    /// Our own data set.
+    pub fn own_set(&self) -> DataSet {
+        DataSet::own(self.own_quality, self.identity)
+    }
+
+    /// The sender records of a port: 8.
+    pub fn senders(&self, port: u8) -> Result<&Senders, Refusal> {
+        check_port(port)?;
+        Ok(&self.senders[place(port)])
+    }
+
+    /// The sender records of port 1.
+    pub fn first_port(&self) -> &Senders {
+        &self.senders[0]
+    }
+
+    /// Sets a port's announce interval: 8, then 18.
+    pub fn set_interval(&mut self, port: u8, log_interval: i8) -> Result<(), Refusal> {
+        check_port(port)?;
+        self.senders[place(port)].set_interval(log_interval)
+    }
+
+    /// Takes an Announce that a port received at a time: 8, the reading checks,
+    /// 3 if it is no Announce, 9, 10, then 11, 12, 13.
+    pub fn take(&mut self, port: u8, time: u64, lent: &[u8]) -> Result<(), Refusal> {
+        check_port(port)?;
+        let announced = self.announced(lent)?;
+        self.senders[place(port)].take(time, announced)
+    }
+
+    /// What an Announce in our domain and from another clock tells.
+    fn announced(&self, lent: &[u8]) -> Result<Announced, Refusal> {
+        let message = read(lent, self.magic)?;
+        let Body::Announce(_, fields) = message.body else {
+            return Err(Refusal::Type);
+        };
+        let header = message.header;
+        refuse_if(header.domain != self.domain, Refusal::Domain)?;
+        refuse_if(header.source.clock == self.identity, Refusal::Own)?;
+        Ok(Announced {
+            sender: header.source,
+            sequence: header.sequence,
+            quality: Quality {
+                priority1: fields.priority1,
+                class: fields.class,
+                accuracy: fields.accuracy,
+                variance: fields.variance,
+                priority2: fields.priority2,
+            },
+            grandmaster: fields.grandmaster,
+            steps_removed: fields.steps_removed,
+            wr_flags: read_suffix(lent, self.magic)?.unwrap_or(0),
+        })
+    }
+
+    /// A port's candidates at a time: 8, then 11.
+    pub fn candidates(&self, port: u8, time: u64) -> Result<Vec<Candidate>, Refusal> {
+        self.senders(port)?.candidates(port, time)
+    }
+
+    /// The link of a port that the clock has.
+    pub fn link(&self, port: u8) -> &Link {
+        &self.links[place(port)]
+    }
+
+    /// The link settings of a port that the clock has.
+    pub fn link_settings(&self, port: u8) -> &LinkSettings {
+        &self.link_settings[place(port)]
+    }
+
+    /// Sets a port's link settings: 8, then 18.
+    pub fn set_link(&mut self, port: u8, settings: LinkSettings) -> Result<(), Refusal> {
+        check_port(port)?;
+        settings.check()?;
+        self.link_settings[place(port)] = settings;
+        Ok(())
+    }
+
+    /// Lets something happen to a port's link: 8.
+    pub fn step_link(&mut self, port: u8, event: LinkEvent) -> Result<Step, Refusal> {
+        check_port(port)?;
+        let step = self.link(port).step(self.link_settings(port), event);
+        self.links[place(port)] = step.link;
+        Ok(step)
+    }
+}

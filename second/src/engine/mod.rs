@@ -1,0 +1,19 @@
+//! The rules of document 01, written from that document, the sources it names
+//! and the agreed readings alone.  Nothing here knows of lines or text.
+
+pub mod candidate;
+pub mod clock;
+pub mod comparison;
+pub mod decision;
+pub mod delay;
+pub mod link;
+pub mod message;
+pub mod octets;
+pub mod origin;
+pub mod ranking;
+pub mod reading;
+pub mod refusal;
+pub mod senders;
+pub mod tlv;
+pub mod white_rabbit;
+pub mod writing;

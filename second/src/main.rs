@@ -1,0 +1,128 @@
+//! The independent second implementation of the engine of document 01.
+//!
+//! `answer` speaks the line protocol on standard input and output; `generate`
+//! prints lines by seed; `compare` gives such lines to another program and
+//! compares its answers with ours; `kinds` counts the kinds of answers that
+//! such lines reach.
+
+mod engine;
+mod protocol;
+mod trial;
+
+use engine::clock::Clock;
+use protocol::answer::answer;
+use protocol::lines::next_line;
+use std::io::{self, BufReader, BufWriter, Write};
+use std::process::ExitCode;
+use trial::calls::calls_named;
+use trial::compare::compare;
+use trial::generator::Generator;
+use trial::kinds::Kinds;
+
+const USAGE: &str = "usage:
+  second answer
+  second generate CALLS COUNT SEED
+  second compare CALLS COUNT SEED -- PROGRAM [ARGUMENTS]
+  second kinds CALLS COUNT SEED
+
+CALLS is `all` or the names of calls separated by commas.";
+
+/// Runs the command that the arguments name.
+fn main() -> ExitCode {
+    let arguments: Vec<String> = std::env::args().skip(1).collect();
+    match run(&arguments) {
+        Ok(code) => code,
+        // Whoever read our output has enough of it.
+        Err(error) if error.kind() == io::ErrorKind::BrokenPipe => ExitCode::SUCCESS,
+        Err(error) => {
+            eprintln!("second: {error}");
+            ExitCode::FAILURE
+        }
+    }
+}
+
+/// Runs a command; bad arguments print the usage.
+fn run(arguments: &[String]) -> io::Result<ExitCode> {
+    let words: Vec<&str> = arguments.iter().map(String::as_str).collect();
+    match words[..] {
+        ["answer"] => run_answer(),
+        ["generate", calls, count, seed] => match lines_asked_for(calls, count, seed) {
+            Some((generator, count)) => run_generate(generator, count),
+            None => Ok(usage()),
+        },
+        ["kinds", calls, count, seed] => match lines_asked_for(calls, count, seed) {
+            Some((generator, count)) => run_kinds(generator, count),
+            None => Ok(usage()),
+        },
+        ["compare", calls, count, seed, "--", _, ..] => match lines_asked_for(calls, count, seed) {
+            Some((generator, count)) => run_compare(&arguments[5..], generator, count),
+            None => Ok(usage()),
+        },
+        _ => Ok(usage()),
+    }
+}
+
+/// Prints how the program is called.
+fn usage() -> ExitCode {
+    eprintln!("{USAGE}");
+    ExitCode::from(2)
+}
+
+/// The generator and the count of lines that three arguments ask for.
+fn lines_asked_for(calls: &str, count: &str, seed: &str) -> Option<(Generator, u64)> {
+    let calls = calls_named(calls)?;
+    Some((
+        Generator::new(calls, seed.parse().ok()?),
+        count.parse().ok()?,
+    ))
+}
+
+/// Answers the lines of standard input on standard output.
+fn run_answer() -> io::Result<ExitCode> {
+    let mut input = BufReader::with_capacity(1 << 16, io::stdin().lock());
+    let mut output = BufWriter::with_capacity(1 << 16, io::stdout().lock());
+    let mut clock = Clock::fresh();
+    let mut line = Vec::new();
+    while next_line(&mut input, &mut line)? {
+        if let Some(answer) = answer(&mut clock, &line) {
+            writeln!(output, "{answer}")?;
+        }
+        if input.buffer().is_empty() {
+            output.flush()?;
+        }
+    }
+    output.flush()?;
+    Ok(ExitCode::SUCCESS)
+}
+
+/// Prints lines.
+fn run_generate(mut generator: Generator, count: u64) -> io::Result<ExitCode> {
+    let mut output = BufWriter::with_capacity(1 << 16, io::stdout().lock());
+    for _ in 0..count {
+        output.write_all(&generator.next_vector().line)?;
+        output.write_all(b"\n")?;
+    }
+    output.flush()?;
+    Ok(ExitCode::SUCCESS)
+}
+
+/// Prints the table of the answers' kinds.
+fn run_kinds(mut generator: Generator, count: u64) -> io::Result<ExitCode> {
+    let mut kinds = Kinds::default();
+    for _ in 0..count {
+        kinds.count(&generator.next_vector());
+    }
+    print!("{}", kinds.table());
+    Ok(ExitCode::SUCCESS)
+}
+
+/// Compares a program's answers with ours and says how many differ.
+fn run_compare(program: &[String], generator: Generator, count: u64) -> io::Result<ExitCode> {
+    let found = compare(program, generator, count)?;
+    println!("{} lines, {} differ", found.lines, found.differing);
+    Ok(if found.differing == 0 && found.ended_well {
+        ExitCode::SUCCESS
+    } else {
+        ExitCode::FAILURE
+    })
+}

@@ -1,0 +1,11 @@
+//! The line protocol: one call a line in, one answer a line out.
+
+pub mod answer;
+pub mod candidate_tokens;
+pub mod lines;
+pub mod link_tokens;
+pub mod message_tokens;
+pub mod show;
+pub mod tokens;
+#[cfg(test)]
+mod worked_rows;

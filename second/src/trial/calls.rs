@@ -1,0 +1,76 @@
+//! The calls of the protocol by name.
+
+/// A call that lines can be made of.
+#[derive(Clone, Copy, Debug, PartialEq, Eq)]
+pub enum Call {
+    Fresh,
+    Clock,
+    Domain,
+    Magic,
+    Own,
+    Read,
+    Lookup,
+    Suffix,
+    LinkMessage,
+    Write,
+    Origin,
+    Compare,
+    Rank,
+    Merge,
+    Decide,
+    Delay,
+    LinkSettings,
+    Link,
+    Interval,
+    Take,
+    Candidates,
+    Records,
+}
+
+/// Every call with its name.
+pub const CALLS: [(&str, Call); 22] = [
+    ("fresh", Call::Fresh),
+    ("clock", Call::Clock),
+    ("domain", Call::Domain),
+    ("magic", Call::Magic),
+    ("own", Call::Own),
+    ("read", Call::Read),
+    ("lookup", Call::Lookup),
+    ("suffix", Call::Suffix),
+    ("linkmessage", Call::LinkMessage),
+    ("write", Call::Write),
+    ("origin", Call::Origin),
+    ("compare", Call::Compare),
+    ("rank", Call::Rank),
+    ("merge", Call::Merge),
+    ("decide", Call::Decide),
+    ("delay", Call::Delay),
+    ("linksettings", Call::LinkSettings),
+    ("link", Call::Link),
+    ("interval", Call::Interval),
+    ("take", Call::Take),
+    ("candidates", Call::Candidates),
+    ("records", Call::Records),
+];
+
+/// How many calls at the front of the list are settings without a port, which
+/// are put between the others in any case.
+const PLAIN_SETTINGS: usize = 5;
+
+/// The calls that a list of names asks for; `all` is every call that is no
+/// plain setting.  None if a name is unknown.
+pub fn calls_named(names: &str) -> Option<Vec<Call>> {
+    if names == "all" {
+        let calls = CALLS[PLAIN_SETTINGS..].iter().map(|(_, call)| *call);
+        return Some(calls.collect());
+    }
+    names.split(',').map(call_named).collect()
+}
+
+/// The call of a name.
+fn call_named(name: &str) -> Option<Call> {
+    CALLS
+        .iter()
+        .find(|(known, _)| *known == name)
+        .map(|(_, call)| *call)
+}

@@ -1,0 +1,152 @@
+//! Lines by seed.  The generator keeps a clock of its own and answers its own
+//! lines as it goes, so that later lines can be aimed at what the earlier ones
+//! made of it.
+
+use super::calls::Call;
+use super::comparison_lines::compare_line;
+use super::delay_lines::delay_line;
+use super::history_lines as history;
+use super::link_lines::{link_lines, link_settings_line, Wires};
+use super::malformed::{longest, malformed, silent};
+use super::origin_lines::origin_line;
+use super::random::Random;
+use super::ranking_lines::{decide_line, merge_line, rank_line};
+use super::reading_lines as reading;
+use super::settings_lines as settings;
+use super::writing_lines::write_line;
+use crate::engine::clock::Clock;
+use crate::protocol::answer::answer;
+use crate::protocol::tokens::Tokens;
+use std::collections::VecDeque;
+
+/// A line, without its newline, and what it answers, if anything.
+pub struct Vector {
+    pub line: Vec<u8>,
+    pub answer: Option<String>,
+}
+
+/// The lines of some calls under a seed.
+pub struct Generator {
+    random: Random,
+    calls: Vec<Call>,
+    clock: Clock,
+    wires: Wires,
+    /// Lines that are to come next.
+    coming: VecDeque<Vec<u8>>,
+}
+
+impl Generator {
+    /// The generator of a seed for these calls.
+    pub fn new(calls: Vec<Call>, seed: u64) -> Generator {
+        Generator {
+            random: Random::new(seed),
+            calls,
+            clock: Clock::fresh(),
+            wires: Wires::default(),
+            coming: VecDeque::new(),
+        }
+    }
+
+    /// The next line and its answer.
+    pub fn next_vector(&mut self) -> Vector {
+        let line = self.next_line();
+        let answer = answer(&mut self.clock, &line);
+        let vector = Vector { line, answer };
+        if self.calls.contains(&Call::Records) {
+            if let Some(port) = refused_to_take(&vector) {
+                let records = history::records_line(&mut self.random, port);
+                self.coming.push_back(records);
+            }
+        }
+        vector
+    }
+
+    /// The next line: one that is to come, or mostly a call that was asked for,
+    /// else a setting, a line that is one step from a call, or one that answers
+    /// nothing.
+    fn next_line(&mut self) -> Vec<u8> {
+        if let Some(line) = self.coming.pop_front() {
+            return line;
+        }
+        match self.random.below(1000) {
+            0..=29 => self.setting(),
+            30..=69 => {
+                let line = self.asked_for();
+                malformed(&mut self.random, line)
+            }
+            70..=74 => silent(&mut self.random),
+            75 if self.random.chance(1, 6) => longest(&mut self.random),
+            _ => self.asked_for(),
+        }
+    }
+
+    /// A line of a setting without a port, whatever was asked for.
+    fn setting(&mut self) -> Vec<u8> {
+        let call = match self.random.below(64) {
+            0 => Call::Fresh,
+            1..=12 => Call::Clock,
+            13..=24 => Call::Domain,
+            25..=45 => Call::Magic,
+            _ => Call::Own,
+        };
+        self.line_of(call)
+    }
+
+    /// A line of one of the calls that were asked for, or of one that it needs
+    /// beside it.
+    fn asked_for(&mut self) -> Vec<u8> {
+        let call = self.random.pick(&self.calls);
+        let share = self.random.below(40);
+        let beside = match call {
+            Call::Link if share < 4 => Call::LinkSettings,
+            Call::Take if share < 1 => Call::Interval,
+            Call::Candidates | Call::Records if share < 20 => Call::Take,
+            Call::Candidates | Call::Records if share < 21 => Call::Interval,
+            Call::Interval if share < 30 && self.calls.contains(&Call::Take) => Call::Take,
+            _ => call,
+        };
+        self.line_of(beside)
+    }
+
+    /// A line of a call.
+    fn line_of(&mut self, call: Call) -> Vec<u8> {
+        let random = &mut self.random;
+        let magic = self.clock.magic;
+        let own = &self.clock.own_set();
+        match call {
+            Call::Fresh => settings::fresh_line(),
+            Call::Clock => settings::clock_line(random),
+            Call::Domain => settings::domain_line(random),
+            Call::Magic => settings::magic_line(random),
+            Call::Own => settings::own_line(random),
+            Call::Read => reading::read_line(random, magic),
+            Call::Lookup => reading::lookup_line(random, magic),
+            Call::Suffix => reading::suffix_line(random, magic),
+            Call::LinkMessage => reading::link_message_line(random, magic),
+            Call::Write => write_line(random, magic),
+            Call::Origin => origin_line(random, magic),
+            Call::Compare => compare_line(random),
+            Call::Rank => rank_line(random, own),
+            Call::Merge => merge_line(random, own),
+            Call::Decide => decide_line(random, own),
+            Call::Delay => delay_line(random),
+            Call::LinkSettings => link_settings_line(random),
+            Call::Link => {
+                let mut lines = link_lines(random, &self.clock, &mut self.wires);
+                self.coming.extend(lines.drain(1..));
+                lines.remove(0)
+            }
+            Call::Interval => history::interval_line(random),
+            Call::Take => history::take_line(random, &self.clock),
+            Call::Candidates => history::candidates_line(random, &self.clock),
+            Call::Records => history::any_records_line(random),
+        }
+    }
+}
+
+/// The port of a line of `take` that was refused.
+fn refused_to_take(vector: &Vector) -> Option<u8> {
+    let mut tokens = Tokens::of(&vector.line);
+    let refused = vector.answer.as_ref()?.starts_with("refused");
+    (refused && tokens.word()? == b"take").then(|| tokens.number())?
+}

@@ -1,0 +1,24 @@
+//! The trial of one implementation against the other: lines made by seed and
+//! weighted to the edges, the comparison of two programs' answers, and a table
+//! of how often each answer came.
+
+pub mod call_line;
+pub mod calls;
+pub mod candidates;
+pub mod compare;
+pub mod comparison_lines;
+pub mod delay_lines;
+pub mod generator;
+pub mod history_lines;
+pub mod kinds;
+pub mod link_lines;
+pub mod malformed;
+pub mod messages;
+pub mod origin_lines;
+pub mod random;
+pub mod ranking_lines;
+pub mod reading_lines;
+pub mod settings_lines;
+pub mod tails;
+pub mod values;
+pub mod writing_lines;
