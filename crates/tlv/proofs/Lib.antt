@@ -1,3 +1,4 @@
 pub mod WalkLaws
 pub mod FormLaws
 pub mod FaultLaws
+mod Determined

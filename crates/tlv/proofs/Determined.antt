@@ -1,0 +1,91 @@
+-- Any two results that a contract of this crate allows are equal, over the contract as it is read of the source: a
+-- contract that said less would not prove these.
+use mathlib.Core.Path.{_≡_, _∙_, sym}
+use contract.Lifetimes.{Lfts}
+use borrow.Fn.Kinds.{Dens, resT, endedOf}
+use denote.Triple.Clauses.{AtExit}
+use denote.Ref.{now}
+use Rattle.tlv.proofs.form.wr_form.Reads as form-wr-form
+use Rattle.tlv.proofs.form.wr_form.Kinds as form-wr-form-kinds
+use Rattle.tlv.proofs.form.data_size.Reads as form-data-size
+use Rattle.tlv.proofs.form.data_size.Kinds as form-data-size-kinds
+use Rattle.tlv.proofs.form.is_misfit.Reads as form-is-misfit
+use Rattle.tlv.proofs.form.is_misfit.Kinds as form-is-misfit-kinds
+use Rattle.tlv.proofs.form.is_suffix.Reads as form-is-suffix
+use Rattle.tlv.proofs.form.is_suffix.Kinds as form-is-suffix-kinds
+use Rattle.tlv.proofs.form.is_link.Reads as form-is-link
+use Rattle.tlv.proofs.form.is_link.Kinds as form-is-link-kinds
+use Rattle.tlv.proofs.walk.place.Reads as walk-place
+use Rattle.tlv.proofs.walk.place.Kinds as walk-place-kinds
+use Rattle.tlv.proofs.walk.data_of.Reads as walk-data-of
+use Rattle.tlv.proofs.walk.data_of.Kinds as walk-data-of-kinds
+use Rattle.tlv.proofs.walk.first_fault.Reads as walk-first-fault
+use Rattle.tlv.proofs.walk.first_fault.Kinds as walk-first-fault-kinds
+use Rattle.tlv.proofs.walk.check.Reads as walk-check
+use Rattle.tlv.proofs.walk.check.Kinds as walk-check-kinds
+use Rattle.tlv.proofs.wr.first_suffix.Reads as wr-first-suffix
+use Rattle.tlv.proofs.wr.first_suffix.Kinds as wr-first-suffix-kinds
+use Rattle.tlv.proofs.wr.wr_flags.Reads as wr-wr-flags
+use Rattle.tlv.proofs.wr.wr_flags.Kinds as wr-wr-flags-kinds
+use Rattle.tlv.proofs.wr.first_link.Reads as wr-first-link
+use Rattle.tlv.proofs.wr.first_link.Kinds as wr-first-link-kinds
+
+module _ (κs : Lfts 0) (a : Dens κs form-wr-form-kinds.ps) (x y : resT form-wr-form-kinds.r κs .Denot)
+    (e f : AtExit (endedOf 0 form-wr-form-kinds.ps form-wr-form-kinds.r) κs) where
+  pub form-wr-form-determined : form-wr-form.Post κs a x e → form-wr-form.Post κs a y f → x ≡ y
+  form-wr-form-determined p q = p ∙ sym q
+
+module _ (κs : Lfts 0) (a : Dens κs form-data-size-kinds.ps) (x y : resT form-data-size-kinds.r κs .Denot)
+    (e f : AtExit (endedOf 0 form-data-size-kinds.ps form-data-size-kinds.r) κs) where
+  pub form-data-size-determined : form-data-size.Post κs a x e → form-data-size.Post κs a y f → x ≡ y
+  form-data-size-determined p q = p ∙ sym q
+
+module _ (κs : Lfts 1) (a : Dens κs form-is-misfit-kinds.ps) (x y : resT form-is-misfit-kinds.r κs .Denot)
+    (e f : AtExit (endedOf 1 form-is-misfit-kinds.ps form-is-misfit-kinds.r) κs) where
+  pub form-is-misfit-determined : form-is-misfit.Post κs a x e → form-is-misfit.Post κs a y f → x ≡ y
+  form-is-misfit-determined p q = p ∙ sym q
+
+module _ (κs : Lfts 1) (a : Dens κs form-is-suffix-kinds.ps) (x y : resT form-is-suffix-kinds.r κs .Denot)
+    (e f : AtExit (endedOf 1 form-is-suffix-kinds.ps form-is-suffix-kinds.r) κs) where
+  pub form-is-suffix-determined : form-is-suffix.Post κs a x e → form-is-suffix.Post κs a y f → x ≡ y
+  form-is-suffix-determined p q = p ∙ sym q
+
+module _ (κs : Lfts 1) (a : Dens κs form-is-link-kinds.ps) (x y : resT form-is-link-kinds.r κs .Denot)
+    (e f : AtExit (endedOf 1 form-is-link-kinds.ps form-is-link-kinds.r) κs) where
+  pub form-is-link-determined : form-is-link.Post κs a x e → form-is-link.Post κs a y f → x ≡ y
+  form-is-link-determined p q = p ∙ sym q
+
+module _ (κs : Lfts 1) (a : Dens κs walk-place-kinds.ps) (x y : resT walk-place-kinds.r κs .Denot)
+    (e f : AtExit (endedOf 1 walk-place-kinds.ps walk-place-kinds.r) κs) where
+  pub walk-place-determined : walk-place.Post κs a x e → walk-place.Post κs a y f → x ≡ y
+  walk-place-determined p q = p ∙ sym q
+
+module _ (κs : Lfts 1) (a : Dens κs walk-data-of-kinds.ps) (x y : resT walk-data-of-kinds.r κs .Denot)
+    (e f : AtExit (endedOf 1 walk-data-of-kinds.ps walk-data-of-kinds.r) κs) where
+  pub walk-data-of-determined : walk-data-of.Post κs a x e → walk-data-of.Post κs a y f → now x ≡ now y
+  walk-data-of-determined p q = p ∙ sym q
+
+module _ (κs : Lfts 1) (a : Dens κs walk-first-fault-kinds.ps) (x y : resT walk-first-fault-kinds.r κs .Denot)
+    (e f : AtExit (endedOf 1 walk-first-fault-kinds.ps walk-first-fault-kinds.r) κs) where
+  pub walk-first-fault-determined : walk-first-fault.Post κs a x e → walk-first-fault.Post κs a y f → x ≡ y
+  walk-first-fault-determined p q = p ∙ sym q
+
+module _ (κs : Lfts 1) (a : Dens κs walk-check-kinds.ps) (x y : resT walk-check-kinds.r κs .Denot)
+    (e f : AtExit (endedOf 1 walk-check-kinds.ps walk-check-kinds.r) κs) where
+  pub walk-check-determined : walk-check.Post κs a x e → walk-check.Post κs a y f → x ≡ y
+  walk-check-determined p q = p ∙ sym q
+
+module _ (κs : Lfts 1) (a : Dens κs wr-first-suffix-kinds.ps) (x y : resT wr-first-suffix-kinds.r κs .Denot)
+    (e f : AtExit (endedOf 1 wr-first-suffix-kinds.ps wr-first-suffix-kinds.r) κs) where
+  pub wr-first-suffix-determined : wr-first-suffix.Post κs a x e → wr-first-suffix.Post κs a y f → x ≡ y
+  wr-first-suffix-determined p q = p ∙ sym q
+
+module _ (κs : Lfts 0) (a : Dens κs wr-wr-flags-kinds.ps) (x y : resT wr-wr-flags-kinds.r κs .Denot)
+    (e f : AtExit (endedOf 0 wr-wr-flags-kinds.ps wr-wr-flags-kinds.r) κs) where
+  pub wr-wr-flags-determined : wr-wr-flags.Post κs a x e → wr-wr-flags.Post κs a y f → x ≡ y
+  wr-wr-flags-determined p q = p ∙ sym q
+
+module _ (κs : Lfts 1) (a : Dens κs wr-first-link-kinds.ps) (x y : resT wr-first-link-kinds.r κs .Denot)
+    (e f : AtExit (endedOf 1 wr-first-link-kinds.ps wr-first-link-kinds.r) κs) where
+  pub wr-first-link-determined : wr-first-link.Post κs a x e → wr-first-link.Post κs a y f → x ≡ y
+  wr-first-link-determined p q = p ∙ sym q
