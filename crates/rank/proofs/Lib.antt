@@ -1,0 +1,5 @@
+pub mod Best
+pub mod Order
+pub mod Sinking
+pub mod Merging
+pub mod Runs
