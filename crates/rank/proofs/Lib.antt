@@ -3,3 +3,6 @@ pub mod Order
 pub mod Sinking
 pub mod Merging
 pub mod Runs
+pub mod Laws
+pub mod Determined
+pub mod Witnesses

@@ -107,8 +107,7 @@ in-rank-sound (x ∷ xs) h =
     let a = both (standsOf (x ∷ xs)) (inRank xs) h in
     let b = both (isPort (x .port)) (not (holdsOf (x .port) xs) && leadsOf x xs) (a .0) in
     let d = both (not (holdsOf (x .port) xs)) (leadsOf x xs) (b .1) in
-    let r = in-rank-sound xs (a .1) in
-    (
+    let r = in-rank-sound xs (a .1) in (
       (leads-sound x xs (d .1) (r .0), holds-sound (x .port) xs (not-true (holdsOf (x .port) xs) (d .0)), r .0),
       (port-sound (x .port) (b .0), r .1),
     )
@@ -132,12 +131,15 @@ ranked-self r h =
     ∙ ap (take 4) (good-self earlierOf portOf (unpack r) (s .0))
     ∙ take-all 4 (unpack r) (omega (arith, length-take (r .len) (r .slots), leb-true (r .len) 4 (b .0)))
 
+pub valid-rank : (s : List Candidate) → AllValid s → AllValid (R s)
+valid-rank s v = rank-all earlierOf portOf ordered 4 _ s v
+
 -- EVERY RANKED LIST OF VALID CANDIDATES PASSES
 pub ranked-passes : (s : List Candidate) → AllValid s → isRanked (pack (rankOf s)) ≡ true
 ranked-passes s v =
     subst (λ (l : List Candidate). isRanked (pack l) ≡ true) (defined s v)
     (rw (le-leb (length (R s)) 4 (short s), unpack-pack (R s))
-    (in-rank-complete (R s) (rank-good earlierOf portOf ordered 4 s) (rank-all earlierOf portOf ordered 4 _ s v)))
+    (in-rank-complete (R s) (rank-good earlierOf portOf ordered 4 s) (valid-rank s v)))
 
 pub all-append : (P : Candidate → Type 0) (s t : List Candidate) → All P s → All P t → All P (s ++ t)
 all-append P [] t h k = k

@@ -193,10 +193,7 @@ pub fn insert(r: Ranked, c: Candidate) -> Ranked
     }
     if n < PLACES {
         slots[n] = x;
-        return Ranked {
-            len: n + 1,
-            slots,
-        };
+        return Ranked { len: n + 1, slots };
     }
     Ranked { len: n, slots }
 }
