@@ -220,8 +220,8 @@ fn holds_from(r: Ranked, p: u8, from: usize) -> bool
     let n = used(r.len);
     let mut i = from;
     while i < n {
-        let y = r.slots[i];
-        if y.port == p {
+        let x = r.slots[i];
+        if x.port == p {
             return true;
         }
         i += 1;
