@@ -7,8 +7,8 @@ use mathlib.Core.List.{List, [], _∷_, _++_, append-nil, List·Memᴰ, List·Me
 use mathlib.Core.Bool.{Bool, true, false}
 use mathlib.Core.Logic.{_⊎_, ⊎-elim}
 use lib.Dec.{eqb}
-use lib.ListN.{length, take}
-use lib.Seq.{take-nil}
+use lib.ListN.{length, take, getD}
+use lib.Seq.{take-length}
 use borrow.Author.Tests.{eqb-true, eqb-false, eq-eqb, ne-eqb}
 use Rattle.refusal.specs.Choice.{pick}
 use Rattle.rank.specs.Best.{better, best, bests, put, sort, sink, insert}
@@ -162,6 +162,27 @@ module _ {A : Type 0} (lt : A → A → Bool) (port : A → ℕ) where
     pub under-trans : (x y : A) (l : List A) → lt x y ≡ true → Under y l → Under x l
     under-trans x y [] e u = tt
     under-trans x y (z ∷ zs) e u = (ord .trans x y z e (u .0), under-trans x y zs e (u .1))
+
+    -- an element that does not come before the last comes before none, and goes to the end or nowhere
+    late : (x d : A) (l : List A) (k : ℕ) → Good l → length l ≡ suc k → lt x (getD l k d) ≡ false → All (λ y. lt x y ≡ false) l
+    late x d [] k g n h = absurd (omega arith)
+    late x d (y ∷ []) zero g n h = (h, tt)
+    late x d (y ∷ []) (suc k) g n h = absurd (omega arith)
+    late x d (y ∷ z ∷ zs) zero g n h = absurd (omega arith)
+    late x d (y ∷ z ∷ zs) (suc k) g n h =
+        let r = late x d (z ∷ zs) k (g .2) (omega arith) h in
+        (cases (lt x y) (λ e. clash (ord .trans x y z e (g .0 .0)) (r .0)) (λ e. e), r)
+
+    sink-late : (p : ℕ) (x : A) (l : List A) → All (λ y. lt x y ≡ false) l → take (length l) (sink lt port p x l) ≡ l
+    sink-late p x [] a = refl
+    sink-late p x (y ∷ ys) a =
+        cases (eqb (port y) p)
+        (λ f. simp (a .0, f) (ap (y ∷_) (take-length ys)))
+        (λ f. simp (a .0, f) (ap (y ∷_) (sink-late p x ys (a .1))))
+
+    pub insert-late : (n : ℕ) (x d : A) (l : List A) → Good l → length l ≡ suc n → lt x (getD l n d) ≡ false → insert lt port (suc n) x l ≡ l
+    insert-late n x d l g e h =
+        subst (λ (k : ℕ). take k (sink lt port (port x) x l) ≡ l) e (sink-late (port x) x l (late x d l n g e h))
 
     good-sink : (x : A) (l : List A) → Good l → Good (sink lt port (port x) x l)
     good-sink x [] g = (tt, tt, tt)

@@ -6,15 +6,15 @@ use mathlib.Core.List.{List, [], _∷_, _++_, append-nil}
 use mathlib.Core.Bool.{Bool, true, false, not, _&&_, _||_}
 use native.Mathlib.Omega.{arith}
 use lib.Dec.{eqb, leb, ltb}
-use borrow.Author.Tests.{leb-true, le-leb, not-true}
-use lib.ListN.{length, take, drop, length-take}
+use borrow.Author.Tests.{leb-true, le-leb, eqb-true, not-true}
+use lib.ListN.{length, take, drop, getD, length-take, List·getD-append}
 use lib.Seq.{take-append-seam, take-all, drop-drop, drop-append-add}
 use Rattle.rank.specs.declared.Candidate.{Candidate}
 use Rattle.rank.specs.declared.Ranked.{Ranked}
 use Rattle.rank.specs.Order.{earlierOf}
 use Rattle.rank.specs.Best.{sink, insert}
-use Rattle.rank.specs.Ranked.{isPort, portOf, allValid, rankOf, laid, blankOf, pack, unpack, insertOf, insertAll, holdsOf, leadsOf, standsOf, inRank, isRanked}
-use Rattle.rank.proofs.Best.{All, Good, Under, Away, Valid, cases, full, grows, under-trans, rank, rank-step, rank-middle, rank-swap, rank-sorts, rank-all, rank-good, good-self}
+use Rattle.rank.specs.Ranked.{isPort, portOf, allValid, rankOf, laid, blankOf, pack, unpack, leftOut, sinkOf, insertOf, insertAll, holdsOf, leadsOf, standsOf, inRank, isRanked}
+use Rattle.rank.proofs.Best.{All, Good, Under, Away, Valid, cases, full, grows, under-trans, insert-late, rank, rank-step, rank-middle, rank-swap, rank-sorts, rank-all, rank-good, good-self}
 use Rattle.rank.proofs.Order.{ordered}
 
 -- the first four of a collection, by insertion in turn
@@ -34,6 +34,10 @@ short s = omega (arith, length-take 4 (full earlierOf portOf s))
 pub unpack-pack : (l : List Candidate) → unpack (pack l) ≡ l
 unpack-pack l = take-append-seam l (drop (length l) (pack [] .slots))
 
+pub both : (b t : Bool) → (b && t) ≡ true → (b ≡ true) × (t ≡ true)
+both true t h = (refl, h)
+both false t h = (h, cc)
+
 -- a list laid over slots that hold a shorter one
 laid-over : (l m slots : List Candidate) → length l ≤ length m → laid m (l ++ drop (length l) slots) ≡ laid m slots
 laid-over l m slots h =
@@ -44,15 +48,30 @@ laid-over l m slots h =
     (drop-append-add l (drop (length l) slots) k ∙ drop-drop k (length l) slots) in
     rw d
 
-insert-pack : (l : List Candidate) (y : Candidate) → length l ≤ 4 → insertOf (pack l) y ≡ pack (insert earlierOf portOf 4 y l)
-insert-pack l y h =
+sink-pack : (l : List Candidate) (y : Candidate) → length l ≤ 4 → sinkOf (pack l) y ≡ pack (insert earlierOf portOf 4 y l)
+sink-pack l y h =
     let m = insert earlierOf portOf 4 y l in
     rw (unpack-pack l)
     (laid-over l m (pack [] .slots)
     (omega (arith, length-take 4 (sink earlierOf portOf (y .port) y l), grows earlierOf portOf (y .port) y l)))
 
+-- where a candidate is left out, going down the list would change nothing
+insert-pack : (l : List Candidate) (y : Candidate) → length l ≤ 4 → Good earlierOf portOf l
+    → insertOf (pack l) y ≡ pack (insert earlierOf portOf 4 y l)
+insert-pack l y h g =
+    cases (leftOut (pack l) y)
+    (λ t.
+    let b = both (eqb (length l) 4) (not (earlierOf y (getD (pack l .slots) 3 blankOf))) t in
+    let n = eqb-true (length l) 4 (b .0) in
+    let o : earlierOf y (getD l 3 blankOf) ≡ false =
+    subst (λ (z : Candidate). earlierOf y z ≡ false) (List·getD-append l (drop (length l) (pack [] .slots)) blankOf 3 (omega arith))
+    (not-true (earlierOf y (getD (pack l .slots) 3 blankOf)) (b .1)) in
+    rw t (ap pack (sym (insert-late earlierOf portOf ordered 3 y blankOf l g n o))))
+    (λ t. rw t (sink-pack l y h))
+
 pub insert-rank : (y : Candidate) (s : List Candidate) → insertOf (pack (R s)) y ≡ pack (R (y ∷ s))
-insert-rank y s = insert-pack (R s) y (short s) ∙ ap pack (sym (rank-step earlierOf portOf ordered 4 y s))
+insert-rank y s =
+    insert-pack (R s) y (short s) (rank-good earlierOf portOf ordered 4 s) ∙ ap pack (sym (rank-step earlierOf portOf ordered 4 y s))
 
 insert-all-rank : (l s : List Candidate) → insertAll (pack (R s)) l ≡ pack (R (l ++ s))
 insert-all-rank [] s = refl
@@ -66,10 +85,6 @@ pub insert-every : (s : List Candidate) → AllValid s → insertAll (pack []) s
 insert-every s v = insert-all-rank s [] ∙ ap (λ (l : List Candidate). pack (R l)) (append-nil s) ∙ ap pack (defined s v)
 
 -- WHAT THE TESTS SAY
-pub both : (b t : Bool) → (b && t) ≡ true → (b ≡ true) × (t ≡ true)
-both true t h = (refl, h)
-both false t h = (h, cc)
-
 neither : (b t : Bool) → (b || t) ≡ false → (b ≡ false) × (t ≡ false)
 neither true t h = (h, cc)
 neither false t h = (refl, h)

@@ -1,4 +1,4 @@
--- How `insert` goes down the slots: what is done, then what is left to do; and the used slots one after the other.
+-- How `sink` goes down the slots: what is done, then what is left to do; and the used slots one after the other.
 use Prim.Native.Nat.{ℕ, zero, suc, _+_, _≤_, _<_, min}
 use mathlib.Core.Path.{_≡_, refl, sym, ap, _∙_, subst}
 use mathlib.Core.List.{List, [], _∷_, _++_, append-nil}
@@ -14,7 +14,7 @@ use Rattle.rank.specs.declared.Candidate.{Candidate}
 use Rattle.rank.specs.declared.Ranked.{Ranked}
 use Rattle.rank.specs.Order.{earlierOf}
 use Rattle.rank.specs.Best.{sink}
-use Rattle.rank.specs.Ranked.{portOf, laid, unpack, insertOf}
+use Rattle.rank.specs.Ranked.{portOf, laid, unpack, sinkOf}
 use Rattle.rank.proofs.Best.{cases}
 
 -- at a place with y on it: which of the two stays, and which goes on
@@ -132,7 +132,7 @@ take-min k l e =
     (λ t. let h = leb-false k 4 t in take-all (min k 4) l (omega arith) ∙ sym (take-all k l (omega arith)))
 
 pub to-spec : (r : Ranked) (c : Candidate) (n : ℕ) → length (r .slots) ≡ 4 → n ≡ min (r .len) 4
-    → laid (take 4 (sink earlierOf portOf (c .port) c (take n (r .slots)))) (r .slots) ≡ insertOf r c
+    → laid (take 4 (sink earlierOf portOf (c .port) c (take n (r .slots)))) (r .slots) ≡ sinkOf r c
 to-spec r c n e h = rw (h, take-min (r .len) (r .slots) e)
 
 -- the used slots from i on: one and the rest, or none

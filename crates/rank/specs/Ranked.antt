@@ -4,7 +4,8 @@ use Prim.Native.Nat.{ℕ}
 use mathlib.Core.List.{List, [], _∷_, _++_}
 use mathlib.Core.Bool.{Bool, true, false, not, _&&_, _||_}
 use lib.Dec.{eqb, leb}
-use lib.ListN.{length, take, drop}
+use lib.ListN.{length, take, drop, getD}
+use Rattle.refusal.specs.Choice.{pick}
 use Rattle.rank.specs.declared.Candidate.{Candidate}
 use Rattle.rank.specs.declared.Ranked.{Ranked}
 use Rattle.rank.specs.Order.{earlierOf}
@@ -48,9 +49,17 @@ pack l = laid l (blankOf ∷ blankOf ∷ blankOf ∷ blankOf ∷ [])
 abbrev pub unpack : Ranked → List Candidate
 unpack r = take (r .len) (r .slots)
 
--- one candidate more, and each of a list in turn
+-- one candidate more: it goes down the list, unless four are there and it does not stand before the last
+abbrev pub leftOut : Ranked → Candidate → Bool
+leftOut r c = eqb (r .len) 4 && not (earlierOf c (getD (r .slots) 3 blankOf))
+
+abbrev pub sinkOf : Ranked → Candidate → Ranked
+sinkOf r c = laid (insert earlierOf portOf 4 c (unpack r)) (r .slots)
+
 abbrev pub insertOf : Ranked → Candidate → Ranked
-insertOf r c = laid (insert earlierOf portOf 4 c (unpack r)) (r .slots)
+insertOf r c = pick (leftOut r c) r (sinkOf r c)
+
+-- each of a list in turn
 
 abbrev pub insertAll : Ranked → List Candidate → Ranked
 insertAll r [] = r

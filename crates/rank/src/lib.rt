@@ -10,7 +10,7 @@ ghost use mathlib.Core.List.{[]};
 ghost use Prim.Native.Nat.{_<_, min};
 ghost use lib.ListN.{drop};
 ghost use Rattle.rank.specs.Order.{identityOf, gradeOf, lex, same, keysOf, earlierOf};
-ghost use Rattle.rank.specs.Ranked.{isPort, blankOf, pack, unpack, insertOf, insertAll, holdsOf, standsOf, isRanked};
+ghost use Rattle.rank.specs.Ranked.{isPort, blankOf, pack, unpack, leftOut, sinkOf, insertOf, insertAll, holdsOf, standsOf, isRanked};
 ghost use Rattle.rank.specs.Calls.{refusedOf, mergeOf, startOf, turnsOf, stepOf, rankingOf};
 use refusal::Outcome;
 use refusal::Refusal;
@@ -170,10 +170,21 @@ fn used(len: usize) -> usize
     if len < PLACES { len } else { PLACES }
 }
 
-// The ranked list with one candidate more. It goes down the list, and whichever of two stands later goes on,
-// until one is left out: at an entry of the candidate's own port, or past the last slot.
-pub fn insert(r: Ranked, c: Candidate) -> Ranked
-    ensures { λ q. ⌜ q ≡ insertOf r c ⌝ }
+// Whether a list is full and a candidate does not stand before its last: then there is no place for it.
+fn left_out(r: Ranked, c: Candidate) -> bool
+    ensures { λ b. ⌜ b ≡ leftOut r c ⌝ }
+{
+    if r.len != PLACES {
+        return false;
+    }
+    let y = r.slots[3];
+    !earlier(c, y)
+}
+
+// A candidate goes down the list, and whichever of two stands later goes on, until one is left out: at an entry of the
+// candidate's own port, or past the last slot.
+fn sink(r: Ranked, c: Candidate) -> Ranked
+    ensures { λ q. ⌜ q ≡ sinkOf r c ⌝ }
 {
     let p = c.port;
     let n = used(r.len);
@@ -196,6 +207,16 @@ pub fn insert(r: Ranked, c: Candidate) -> Ranked
         return Ranked { len: n + 1, slots };
     }
     Ranked { len: n, slots }
+}
+
+// The ranked list with one candidate more.
+pub fn insert(r: Ranked, c: Candidate) -> Ranked
+    ensures { λ q. ⌜ q ≡ insertOf r c ⌝ }
+{
+    if left_out(r, c) {
+        return r;
+    }
+    sink(r, c)
 }
 
 // A ranked list with each candidate of another more.
