@@ -1,15 +1,14 @@
 -- Rank order and comparison agree on the first nine keys; and where they do not, the comparison can go in a circle.
-use Prim.Native.Nat.{ℕ, _+_, _<_, _≤_}
+use Prim.Native.Nat.{ℕ, _+_, _<_}
 use mathlib.Core.Path.{_≡_, refl, sym, ap, ap₂, _∙_, subst}
 use mathlib.Core.List.{List, [], _∷_, _++_}
-use mathlib.Core.Bool.{Bool, true, false, _&&_}
+use mathlib.Core.Bool.{Bool, true, false}
 use native.Mathlib.Omega.{arith}
 use lib.Dec.{ltb, leb, eqb}
 use lib.ListN.{length, getD}
-use borrow.Author.Tests.{ltb-true, ltb-false, lt-ltb, le-ltb, eqb-true, eqb-false, eq-eqb, ne-eqb}
+use borrow.Author.Tests.{ltb-true, ltb-false, eqb-true, eqb-false, eq-eqb}
 use Rattle.refusal.specs.Choice.{pick}
 use Rattle.rank.specs.declared.PortIdentity.{PortIdentity}
-use Rattle.rank.specs.declared.Grandmaster.{Grandmaster}
 use Rattle.rank.specs.declared.Candidate.{Candidate}
 use Rattle.rank.specs.Order.{identityOf, gradeOf, lex, same, keysOf, earlierOf}
 use Rattle.rank.proofs.Best.{cases}
@@ -18,7 +17,7 @@ use Rattle.rank.proofs.Order.{last, lex-append, lex-asym, lex-tri}
 use Rattle.decide.specs.declared.DataSet.{DataSet}
 use Rattle.decide.specs.declared.Comparison.{Comparison}
 use Rattle.decide.specs.declared.Comparison.the-variants.{ABetter, BBetter, ABetterByTopology, BBetterByTopology, Error1, Error2}
-use Rattle.decide.specs.Comparing.{mirrorOf, differentOf, byOneOf, fewerOf, evenOf, sameOf, compareOf, nineOf}
+use Rattle.decide.specs.Comparing.{mirrorOf, differentOf, fewerOf, evenOf, sameOf, compareOf, nineOf}
 use Rattle.decide.specs.Deciding.{beatsOf, setOf}
 
 -- "where sets of one grandmaster have equal quality fields and no set with steps above 0 has sender equal to receiver"

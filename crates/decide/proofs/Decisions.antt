@@ -15,12 +15,11 @@ use Rattle.rank.specs.Ranked.{isPort, unpack, holdsOf, standsOf, inRank, isRank
 use Rattle.rank.proofs.Best.{cases}
 use Rattle.rank.proofs.Merging.{both}
 use Rattle.decide.specs.declared.Erbest.{Erbest}
-use Rattle.decide.specs.declared.Erbest.the-variants.{Absent, Present}
+use Rattle.decide.specs.declared.Erbest.the-variants.{Present}
 use Rattle.decide.specs.declared.Decision.{Decision}
-use Rattle.decide.specs.declared.Decision.the-variants.{M1, M2, M3, P1, P2, S1, S2}
-use Rattle.decide.specs.declared.Answer.{Answer}
+use Rattle.decide.specs.declared.Decision.the-variants.{M1, M3, P1, P2, S1, S2}
 use Rattle.decide.specs.declared.Answer.the-variants.{Decided, Refused}
-use Rattle.decide.specs.Deciding.{ownBeats, beatsErbest, nearerOf, otherwiseOf, byListOf, decisionOf, decideOf}
+use Rattle.decide.specs.Deciding.{ownBeats, beatsErbest, nearerOf, byListOf, decisionOf, decideOf}
 
 -- "port outside 1 to 18", whatever the list
 pub port-first : (own : Grandmaster) (list : Ranked) (port : ℕ) (best : Erbest) → isPort port ≡ false

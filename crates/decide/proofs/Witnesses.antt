@@ -1,8 +1,7 @@
 -- Worked inputs, computed: 01's own, and one for each rule that a constant answer or a habit of other systems would break.
 use Prim.Native.Nat.{ℕ}
-use mathlib.Core.Path.{_≡_, refl, sym, ap, _∙_}
-use mathlib.Core.List.{List, [], _∷_}
-use mathlib.Core.Bool.{true, false}
+use mathlib.Core.Path.{_≡_, refl, sym, _∙_}
+use mathlib.Core.List.{[], _∷_}
 use native.Mathlib.Omega.{arith}
 use contract.Lifetimes.{Lfts}
 use borrow.Fn.Kinds.{endedOf}
@@ -14,7 +13,6 @@ use Rattle.rank.specs.declared.Candidate.{Candidate}
 use Rattle.rank.specs.declared.Ranked.{Ranked}
 use Rattle.rank.specs.Ranked.{rankOf, pack}
 use Rattle.decide.specs.declared.DataSet.{DataSet}
-use Rattle.decide.specs.declared.Comparison.{Comparison}
 use Rattle.decide.specs.declared.Comparison.the-variants.{ABetter, BBetter, ABetterByTopology, BBetterByTopology, Error1, Error2}
 use Rattle.decide.specs.declared.Erbest.the-variants.{Absent, Present}
 use Rattle.decide.specs.declared.Decision.the-variants.{M1, M2, M3, P1, P2, S1, S2}

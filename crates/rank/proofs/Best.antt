@@ -352,10 +352,7 @@ module _ {A : Type 0} (lt : A → A → Bool) (port : A → ℕ) where
     pub rank-merge : (n : ℕ) (s t : List A) → rank n (rank n s ++ rank n t) ≡ rank n (s ++ t)
     rank-merge n s t = rank-right n (rank n s) t ∙ rank-swap n (rank n s) t ∙ rank-right n t s ∙ rank-swap n t s
 
-    -- ranking a ranked list, with itself or with nothing, changes nothing
-    pub rank-again : (n : ℕ) (s : List A) → rank n (rank n s) ≡ rank n s
-    rank-again n s = ap (take n) (good-self (rank n s) (rank-good n s)) ∙ take-twice n (full s)
-
+    -- ranking a collection twice over changes nothing
     better-self : (x : A) → better lt port x (x ∷ []) ≡ x ∷ []
     better-self x = cases (lt x x) (λ e. simp e) (λ e. simp e)
 

@@ -1,11 +1,11 @@
 -- What inserting in turn makes, and what the test for a ranked list says: for `merge`, for `rank`, and for whoever ranks a
 -- collection one candidate at a time.
-use Prim.Native.Nat.{ℕ, zero, suc, _+_, _-_, _≤_, _<_}
+use Prim.Native.Nat.{ℕ, _+_, _-_, _≤_, _<_}
 use mathlib.Core.Path.{_≡_, refl, sym, ap, _∙_, subst}
 use mathlib.Core.List.{List, [], _∷_, _++_, append-nil}
 use mathlib.Core.Bool.{Bool, true, false, not, _&&_, _||_}
 use native.Mathlib.Omega.{arith}
-use lib.Dec.{eqb, leb, ltb}
+use lib.Dec.{eqb, leb}
 use borrow.Author.Tests.{leb-true, le-leb, eqb-true, not-true}
 use lib.ListN.{length, take, drop, getD, length-take, List·getD-append}
 use lib.Seq.{take-append-seam, take-all, drop-drop, drop-append-add}

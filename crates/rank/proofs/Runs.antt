@@ -1,8 +1,7 @@
 -- Ranking a run one candidate at a time gives what ranking it whole is defined to give.
 use Prim.Native.Nat.{ℕ, suc, _+_, _≤_, _<_}
-use mathlib.Core.Path.{_≡_, refl, sym, ap, _∙_}
+use mathlib.Core.Path.{_≡_, refl, ap, _∙_}
 use mathlib.Core.List.{List, [], _∷_, _++_, append-nil}
-use mathlib.Core.Bool.{true, false, not}
 use native.Mathlib.Omega.{arith}
 use native.Mathlib.Numerals.{add-one}
 use lib.Dec.{ltb}
@@ -16,7 +15,7 @@ use Rattle.rank.specs.declared.Candidate.{Candidate}
 use Rattle.rank.specs.declared.Ranked.{Ranked}
 use Rattle.rank.specs.declared.Ranking.{Ranking}
 use Rattle.rank.specs.Order.{earlierOf}
-use Rattle.rank.specs.Ranked.{isPort, portOf, allValid, blankOf, pack}
+use Rattle.rank.specs.Ranked.{isPort, portOf, allValid, blankOf}
 use Rattle.rank.specs.Calls.{refusedOf, doneOf, rankingOf, startOf, stepOf, turnsOf}
 use Rattle.rank.proofs.Best.{cases, rank-middle}
 use Rattle.rank.proofs.Order.{ordered}

@@ -1,14 +1,14 @@
 -- How `sink` goes down the slots: what is done, then what is left to do; and the used slots one after the other.
-use Prim.Native.Nat.{ℕ, zero, suc, _+_, _≤_, _<_, min}
-use mathlib.Core.Path.{_≡_, refl, sym, ap, _∙_, subst}
-use mathlib.Core.List.{List, [], _∷_, _++_, append-nil}
-use mathlib.Core.Bool.{Bool, true, false}
+use Prim.Native.Nat.{ℕ, suc, _+_, _≤_, _<_, min}
+use mathlib.Core.Path.{_≡_, sym, ap, _∙_}
+use mathlib.Core.List.{List, [], _∷_, _++_}
+use mathlib.Core.Bool.{true, false}
 use native.Mathlib.Omega.{arith}
 use native.Mathlib.Numerals.{add-one}
 use lib.Dec.{eqb, leb}
-use borrow.Author.Tests.{leb-true, leb-false, eq-eqb, ne-eqb}
+use borrow.Author.Tests.{leb-true, leb-false}
 use lib.ListN.{length, take, drop, set, getD, length-append, length-set, length-take, take-append-drop, drop-of-length-le}
-use lib.Seq.{take-suc-set, take-all, take-append-le, take-set-lt, take-take, drop-set-lt, drop-drop, drop-cons, append-snoc, getD-take, set-getD, set-split, length-take-le}
+use lib.Seq.{take-suc-set, take-all, take-append-le, take-set-lt, take-take, drop-set-lt, drop-drop, drop-cons, append-snoc, getD-take, set-split, length-take-le}
 use Rattle.refusal.specs.Choice.{pick}
 use Rattle.rank.specs.declared.Candidate.{Candidate}
 use Rattle.rank.specs.declared.Ranked.{Ranked}

@@ -1,6 +1,6 @@
 -- What ranking and merging answer (01, "Numbers that refuse" and "Comparing and ranking").
 use Prim.Native.Nat.{ℕ}
-use mathlib.Core.List.{List, [], _∷_, _++_}
+use mathlib.Core.List.{List, [], _++_}
 use mathlib.Core.Bool.{not, _&&_}
 use lib.Dec.{ltb}
 use lib.ListN.{length}

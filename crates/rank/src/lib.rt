@@ -9,7 +9,7 @@ ghost use mathlib.Core.Path.{_≡_};
 ghost use mathlib.Core.List.{[]};
 ghost use Prim.Native.Nat.{_<_, min};
 ghost use lib.ListN.{drop};
-ghost use Rattle.rank.specs.Order.{identityOf, gradeOf, lex, same, keysOf, earlierOf};
+ghost use Rattle.rank.specs.Order.{identityOf, gradeOf, lex, same, earlierOf};
 ghost use Rattle.rank.specs.Ranked.{isPort, blankOf, pack, unpack, leftOut, sinkOf, insertOf, insertAll, holdsOf, standsOf, isRanked};
 ghost use Rattle.rank.specs.Calls.{refusedOf, mergeOf, startOf, turnsOf, stepOf, rankingOf};
 use refusal::Outcome;
@@ -107,11 +107,8 @@ pub fn earlier(a: Candidate, b: Candidate) -> bool
     }
     let s = a.sender;
     let t = b.sender;
-    if s.clock != t.clock {
-        return s.clock < t.clock;
-    }
-    if s.port != t.port {
-        return s.port < t.port;
+    if (s.clock != t.clock) | (s.port != t.port) {
+        return precedes(s, t);
     }
     if a.port != b.port {
         return a.port < b.port;
@@ -129,7 +126,7 @@ pub fn is_port(p: u8) -> bool
 // A ranked list: the first `len` of the slots. The slots past them say nothing.
 pub struct Ranked {
     pub len: usize,
-    pub slots: [Candidate; 4],
+    pub slots: [Candidate; PLACES],
 }
 
 // What an unused slot holds.
@@ -159,7 +156,7 @@ pub fn empty() -> Ranked
     let b = blank();
     Ranked {
         len: 0,
-        slots: [b; 4],
+        slots: [b; PLACES],
     }
 }
 

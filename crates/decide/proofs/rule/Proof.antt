@@ -3,11 +3,10 @@ use Prim.Native.Nat.{ℕ}
 use mathlib.Core.List.{List, _∷_}
 use native.Mathlib.Omega.{arith}
 use mathlib.Core.Path.{_≡_, sym, _∙_}
-use borrow.Author.Tests.{eq-eqb}
 use lib.ListN.{length, length-map}
 use Rattle.rank.specs.declared.Grandmaster.{Grandmaster}
 use Rattle.rank.specs.declared.Candidate.{Candidate}
-use Rattle.rank.specs.Ranked.{unpack, blankOf}
+use Rattle.rank.specs.Ranked.{blankOf}
 use Rattle.rank.proofs.Sinking.{here}
 use Rattle.decide.specs.declared.Erbest.{Erbest}
 use Rattle.decide.specs.Deciding.{byListOf, otherwiseOf}

@@ -1,12 +1,11 @@
 -- `is_ranked` meets its contract: what is left to look at is in rank exactly when the list is a ranked list.
 use Prim.Native.Nat.{_-_, _+_}
 use mathlib.Core.Path.{_≡_, sym, _∙_}
-use mathlib.Core.List.{_∷_}
 use mathlib.Core.Bool.{_&&_}
 use native.Mathlib.Omega.{arith}
 use borrow.Author.Needs.{needs}
 use borrow.Author.Tests.{not-true, not-false, le-leb, lt-leb}
-use lib.ListN.{length, drop, getD, length-map}
+use lib.ListN.{length, drop, length-map}
 use Rattle.rank.specs.Ranked.{standsOf, inRank, isRanked, unpack, blankOf}
 use Rattle.rank.proofs.Sinking.{here, none}
 use Rattle.rank.proofs.is_ranked.Statement.{statement}

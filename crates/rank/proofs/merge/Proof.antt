@@ -1,6 +1,6 @@
 -- `merge` meets its contract: a list that does not pass is refused; inserting one list and then the other gives the
 -- ranked list of both.
-use mathlib.Core.Path.{_≡_, sym, _∙_}
+use mathlib.Core.Path.{sym, _∙_}
 use borrow.Author.Tests.{not-true, not-false}
 use Rattle.refusal.specs.Choice.{refuse}
 use Rattle.rank.proofs.Merging.{merged}

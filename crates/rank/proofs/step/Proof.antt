@@ -1,5 +1,5 @@
 -- `step` meets its contract: what is refused stays; else the port is tested, and the candidate inserted.
-use mathlib.Core.Path.{_≡_, sym, _∙_}
+use mathlib.Core.Path.{sym, _∙_}
 use borrow.Author.Tests.{not-true, not-false}
 use Rattle.refusal.specs.Choice.{refuse}
 use borrow.Author.Needs.{needs}
