@@ -44,11 +44,13 @@ moved c q = record { grandmaster = c .grandmaster; steps = c .steps; sender = c 
 
 list-unread : (own : Grandmaster) (l : List Candidate) (port : ℕ) (c : Candidate) (q : ℕ)
     → byListOf own l port (Present c) ≡ byListOf own l port (Present (moved c q))
+unfolding nearerOf
 list-unread own [] port c q = refl
 list-unread own (e ∷ l) port c q = refl
 
 pub best-port-unread : (own : Grandmaster) (list : Ranked) (port : ℕ) (c : Candidate) (q : ℕ)
     → decideOf own list port (Present c) ≡ decideOf own list port (Present (moved c q))
+unfolding ownBeats
 best-port-unread own list port c q =
     ap
     (λ (d : Decision).

@@ -19,7 +19,7 @@ use Rattle.decide.specs.declared.Decision.the-variants.{M1, M2, M3, P1, 
 use Rattle.decide.specs.declared.Answer.{Answer}
 use Rattle.decide.specs.declared.Answer.the-variants.{Decided, Refused}
 use Rattle.decide.specs.Comparing.{differentOf, fewerOf, evenOf, sameOf, compareOf}
-use Rattle.decide.specs.Deciding.{setOf, decideOf}
+use Rattle.decide.specs.Deciding.{setOf, ownBeats, nearerOf, decideOf}
 use Rattle.decide.proofs.decide.Reads as decide
 use Rattle.decide.proofs.decide.Kinds as decide-kinds
 
@@ -92,56 +92,56 @@ weak = clock 128 248 100
 
 -- on Ebest's port
 pub s1 : decideOf weak list 3 Absent ≡ Decided S1
-unfolding refuse compareOf sameOf fewerOf evenOf differentOf
+unfolding refuse ownBeats nearerOf compareOf sameOf fewerOf evenOf differentOf
 s1 = refl
 
 -- better by topology than the port's best: S2 for a port of the list, P2 for another
 pub s2 : decideOf weak list 4 (Present (cand (clock 1 248 7) 1 8 4)) ≡ Decided S2
-unfolding refuse compareOf sameOf fewerOf evenOf differentOf
+unfolding refuse ownBeats nearerOf compareOf sameOf fewerOf evenOf differentOf
 s2 = refl
 
 pub p2 : decideOf weak list 5 (Present (cand (clock 1 248 7) 1 9 5)) ≡ Decided P2
-unfolding refuse compareOf sameOf fewerOf evenOf differentOf
+unfolding refuse ownBeats nearerOf compareOf sameOf fewerOf evenOf differentOf
 p2 = refl
 
 -- an absent best is beaten, but not by topology; and an error beats nothing
 pub m3-absent : decideOf weak list 5 Absent ≡ Decided M3
-unfolding refuse compareOf sameOf fewerOf evenOf differentOf
+unfolding refuse ownBeats nearerOf compareOf sameOf fewerOf evenOf differentOf
 m3-absent = refl
 
 pub m3-error : decideOf weak list 1 (Present (cand (clock 1 248 7) 2 100 1)) ≡ Decided M3
-unfolding refuse compareOf sameOf fewerOf evenOf differentOf
+unfolding refuse ownBeats nearerOf compareOf sameOf fewerOf evenOf differentOf
 m3-error = refl
 
 -- no Ebest, or one that we beat
 pub m2-none : decideOf weak (pack []) 5 Absent ≡ Decided M2
-unfolding refuse compareOf sameOf fewerOf evenOf differentOf
+unfolding refuse ownBeats nearerOf compareOf sameOf fewerOf evenOf differentOf
 m2-none = refl
 
 pub m2-beaten : decideOf (clock 0 248 100) list 3 Absent ≡ Decided M2
-unfolding refuse compareOf sameOf fewerOf evenOf differentOf
+unfolding refuse ownBeats nearerOf compareOf sameOf fewerOf evenOf differentOf
 m2-beaten = refl
 
 -- our class is 1 to 127: M1 or P1. Class 0 and class 128 are not
 pub m1 : decideOf (clock 128 127 100) list 3 Absent ≡ Decided M1
-unfolding refuse compareOf sameOf fewerOf evenOf differentOf
+unfolding refuse ownBeats nearerOf compareOf sameOf fewerOf evenOf differentOf
 m1 = refl
 
 pub p1 : decideOf (clock 128 6 100) list 3 (Present ebest) ≡ Decided P1
-unfolding refuse compareOf sameOf fewerOf evenOf differentOf
+unfolding refuse ownBeats nearerOf compareOf sameOf fewerOf evenOf differentOf
 p1 = refl
 
 pub class-128 : decideOf (clock 128 128 100) list 3 Absent ≡ Decided S1
-unfolding refuse compareOf sameOf fewerOf evenOf differentOf
+unfolding refuse ownBeats nearerOf compareOf sameOf fewerOf evenOf differentOf
 class-128 = refl
 
 pub class-0 : decideOf (clock 128 0 100) (pack []) 3 Absent ≡ Decided M2
-unfolding refuse compareOf sameOf fewerOf evenOf differentOf
+unfolding refuse ownBeats nearerOf compareOf sameOf fewerOf evenOf differentOf
 class-0 = refl
 
 -- error-1 between our set and the port's best: it does not beat it
 pub p1-error : decideOf (clock 128 6 100) (pack []) 1 (Present (cand (clock 128 6 100) 1 100 1)) ≡ Decided P1
-unfolding refuse compareOf sameOf fewerOf evenOf differentOf
+unfolding refuse ownBeats nearerOf compareOf sameOf fewerOf evenOf differentOf
 p1-error = refl
 
 -- refused: the port first; a list that is not looked at too

@@ -54,7 +54,7 @@ byTopology Error1 = false
 byTopology Error2 = false
 
 -- our set beats a candidate
-abbrev pub ownBeats : Grandmaster → Candidate → ℕ → Bool
+unfoldable pub ownBeats : Grandmaster → Candidate → ℕ → Bool
 ownBeats own c port = beatsOf (compareOf (ownSet own) (setOf c (own .identity) port))
 
 -- "Erbest a port's best (its receiver port isn't read; the port asked for stands in)"; "anything beats an absent Erbest"
@@ -63,7 +63,7 @@ beatsErbest own port Absent = true
 beatsErbest own port (Present c) = ownBeats own c port
 
 -- "Ebest is better by topology than Erbest"; an absent one is beaten "not by topology"
-abbrev pub nearerOf : Candidate → ℕ → ℕ → Erbest → Bool
+unfoldable pub nearerOf : Candidate → ℕ → ℕ → Erbest → Bool
 nearerOf e clock port Absent = false
 nearerOf e clock port (Present c) = byTopology (compareOf (setOf e clock (e .port)) (setOf c clock port))
 

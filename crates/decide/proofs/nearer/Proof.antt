@@ -1,4 +1,5 @@
 -- `nearer` meets its contract: an absent one is not beaten by topology; else the comparison says.
+use Rattle.decide.specs.Deciding.{nearerOf}
 use borrow.Author.Needs.{needs}
 use Rattle.decide.proofs.nearer.Statement.{statement}
 use Rattle.decide.proofs.nearer.Tie as tie
@@ -10,6 +11,7 @@ enum-told : tie.Need-enum-told
 enum-told c = search needs
 
 returns : tie.Need-returns
+unfolding nearerOf
 returns c = search needs
 
 set-of-requires : tie.Need-set-of-requires
@@ -25,6 +27,7 @@ by-topology-requires : tie.Need-by-topology-requires
 by-topology-requires c κs = search needs
 
 returns-2 : tie.Need-returns-2
+unfolding nearerOf
 returns-2 c =
     let d = c .before .before in
     rw (

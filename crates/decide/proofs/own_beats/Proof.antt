@@ -1,4 +1,5 @@
 -- `own_beats` meets its contract: by those of the four that it calls.
+use Rattle.decide.specs.Deciding.{ownBeats}
 use borrow.Author.Needs.{needs}
 use Rattle.decide.proofs.own_beats.Statement.{statement}
 use Rattle.decide.proofs.own_beats.Tie as tie
@@ -16,6 +17,7 @@ beats-requires : tie.Need-beats-requires
 beats-requires c κs = search needs
 
 returns : tie.Need-returns
+unfolding ownBeats
 returns c =
     rw (c .beats .ensures, c .before .compare .ensures, c .before .before .set-of .ensures, c .before .before .before .own-set .ensures)
 
