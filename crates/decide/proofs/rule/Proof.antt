@@ -44,9 +44,8 @@ returns-4 c =
     let e1 = c .before .before .before in
     let s = e1 .before .before .before in
     let r = s .args .t2 in
-    rw (e1 .if1 .left)
-    (c .otherwise .ensures
-    ∙ sym (by-list (s .args .own) (s .args .port) (s .args .best) _ _ _ (here r 0 blankOf (size s) (omega (arith, c .before .before .if3 .left)))))
+    let l = here r 0 blankOf (size s) (omega (arith, c .before .before .if3 .left)) in
+    rw (e1 .if1 .left, by-list (s .args .own) (s .args .port) (s .args .best) _ _ _ l) (c .otherwise .ensures)
 
 pub rule-spec : {M : Type 1} → statement M
 rule-spec =
