@@ -18,6 +18,7 @@ use Rattle.rank.specs.Ranked.{isPort, allValid, rankOf, pack, unpack, in
 abbrev pub refusedOf : Refusal → Ranking
 refusedOf x = record { outcome = Refused x; list = pack [] }
 
+-- the work is done
 abbrev pub doneOf : List Candidate → Ranking
 doneOf l = record { outcome = Done; list = pack l }
 

@@ -15,6 +15,7 @@ use Rattle.rank.specs.Best.{bests, sort, insert}
 abbrev pub isPort : ℕ → Bool
 isPort p = leb 1 p && leb p 18
 
+-- "the best candidate of each port": its receiver port
 abbrev pub portOf : Candidate → ℕ
 portOf c = c .port
 
@@ -31,6 +32,7 @@ rankOf s = take 4 (sort earlierOf portOf (bests earlierOf portOf 18 s))
 abbrev pub laid : List Candidate → List Candidate → Ranked
 laid l slots = record { len = length l; slots = l ++ drop (length l) slots }
 
+-- what an unused slot of a list that ranking or merging gives holds
 abbrev pub blankOf : Candidate
 blankOf =
     record {
@@ -60,7 +62,6 @@ abbrev pub insertOf : Ranked → Candidate → Ranked
 insertOf r c = pick (leftOut r c) r (sinkOf r c)
 
 -- each of a list in turn
-
 abbrev pub insertAll : Ranked → List Candidate → Ranked
 insertAll r [] = r
 insertAll r (y ∷ ys) = insertAll (insertOf r y) ys
@@ -70,19 +71,22 @@ abbrev pub holdsOf : ℕ → List Candidate → Bool
 holdsOf p [] = false
 holdsOf p (x ∷ xs) = eqb (x .port) p || holdsOf p xs
 
--- "is not a ranked list": a ranked list has at most four entries, with ports from 1 to 18, all different, and rises
--- strictly in rank order
+-- what stands after x, if anything, comes later in rank order
 abbrev pub leadsOf : Candidate → List Candidate → Bool
 leadsOf x [] = true
 leadsOf x (y ∷ ys) = earlierOf x y
 
+-- the first of a list has a port of the clock, its own alone, and leads the next
 abbrev pub standsOf : List Candidate → Bool
 standsOf [] = true
 standsOf (x ∷ xs) = isPort (x .port) && (not (holdsOf (x .port) xs) && leadsOf x xs)
 
+-- and so each of them
 abbrev pub inRank : List Candidate → Bool
 inRank [] = true
 inRank (x ∷ xs) = standsOf (x ∷ xs) && inRank xs
 
+-- "UNRANKED: a list to merge or decide by is not a ranked list": one has at most four entries, of different ports from 1
+-- to 18, and rises strictly in rank order
 abbrev pub isRanked : Ranked → Bool
 isRanked r = leb (r .len) 4 && inRank (unpack r)

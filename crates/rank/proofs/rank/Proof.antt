@@ -1,6 +1,6 @@
--- `rank::rank` meets its contract: a walk of its MIR, by hand. In a turn the slice is looked into for a copy of its i-th record, as in `at`, and
--- `step` is called on it; the loop goes by `loop-rule`, as in logic/Denote/Examples/Slices/Fill.antt. All that it knows of its callees is their contracts.
--- Assumes nothing.
+-- `rank` meets its contract: a walk of its code by hand, since it reads a slice of records. In a turn the slice is looked into
+-- for a copy of its i-th record, and `step` is called on it. The loop's invariant: going on from here with what is left of
+-- the run gives the answer. All that is known of the functions that it calls is their contracts.
 use mathlib.Core.Path.{_≡_, refl, sym, _∙_, ap, subst}
 use Prim.Native.Nat.{ℕ, zero, suc, _+_, _*_, _<_, _≤_, _^_}
 use native.Mathlib.Omega.{arith}
@@ -91,7 +91,7 @@ Cty = mir.Table.spell code.Mir.table (pointee (T.the-row .written))
 abbrev slice : Ty
 slice = sliceTy (tyRef (named 0) imm (pointee (T.the-row .written)))
 
--- the callees' contracts, and of each one's `ensured` the clause alone
+-- the contracts of the functions that are called, and of each one's `ensured` the clause alone
 module _ {M : Type 1} (𝓤 : URA M) (H : Heap 𝓤) (A : Atoms 𝓤) (mem : Memory → SProp 𝓤) (run : Routine → Fun 𝓤) where
   abbrev Turns : Contract 𝓤
   Turns = tripleOf 𝓤 H A turns.signature (turns.spec 𝓤 H A mem run)
