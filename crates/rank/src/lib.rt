@@ -313,10 +313,7 @@ fn refused(x: Refusal) -> Ranking
 pub fn merge(a: Ranked, b: Ranked) -> Ranking
     ensures { λ r. ⌜ r ≡ mergeOf a b ⌝ }
 {
-    if !is_ranked(a) {
-        return refused(Refusal::Unranked);
-    }
-    if !is_ranked(b) {
+    if !(is_ranked(a) & is_ranked(b)) {
         return refused(Refusal::Unranked);
     }
     let list = insert_all(insert_all(empty(), a), b);
