@@ -1,0 +1,4 @@
+pub mod Parts
+pub mod Floors
+pub mod Ranges
+pub mod Determined
