@@ -1,3 +1,4 @@
 pub mod Machine
 pub mod Words
 pub mod Run
+pub mod Conversation
