@@ -17,7 +17,7 @@ use Rattle.link.specs.declared.machine.Settings.{Settings}
 use Rattle.link.specs.declared.machine.Event.the-variants.{Start, Message}
 use Rattle.link.specs.Machine.{isIdle, CanSlave, CanMaster, onStart, onSlavePresent, calibrateOf, calibratedOf, waitsOf, inState, stepped}
 use Rattle.link.proofs.StepLaws.{idle-is}
-use Rattle.link.specs.Conversation.{World, Act, ToMaster, ToSlave, SlaveDone, MasterDone, waitsForHardware, Can, CanSome, BothUp, act, Comes, begins}
+use Rattle.link.specs.Conversation.{World, Act, ToMaster, ToSlave, SlaveDone, MasterDone, waitsForHardware, Can, CanSome, BothUp, act, Comes, begins, happenings, says, thenDone, slavesWay, mastersWay}
 
 -- these settings, where calibration is needed or not
 abbrev with : Bool → Settings → Settings
@@ -205,10 +205,6 @@ module _ (s t : Settings) (was : Bool) (master : Link) (n : ℕ) (rest : Comes s
       (blocked _ refl)
       (blocked _ (no-hardware (master .role) (master .state) i))
 
--- how many things happen: eight messages and the slave's lock, and the hardware's calibration on each side that needs it
-abbrev happenings : Settings → Settings → ℕ
-happenings s t = 9 + pick (s .calibrate) 1 0 + pick (t .calibrate) 1 0
-
 both-halves : (ours theirs : Bool) → suc (suc (suc (first-half theirs (second-half ours)))) ≡ 9 + pick ours 1 0 + pick theirs 1 0
 both-halves true true = refl
 both-halves true false = refl
@@ -230,3 +226,25 @@ module _ (s t : Settings) (slave master : Link) where
       (slave-locked (t .calibrate) s t (slave .mode) (master .mode) (second-half (s .calibrate))
       (master-calibrated (s .calibrate) s t (slave .mode) (master .mode)))
       j cm)
+
+-- What each side says on its way, with the data: a slave that has sent SLAVE_PRESENT, a master that has sent LOCK.
+
+slave-by : (needed : Bool) (s : Settings) (mode : Bool) →
+    says (with needed s) (inState Slave Present mode) (slavesWay (with needed s)) ≡ message.Locked ∷ calibrateOf (with needed s) ∷ calibratedOf s ∷ []
+unfolding says stepped
+slave-by true s mode = refl
+slave-by false s mode = refl
+
+pub slave-says : (s : Settings) (mode : Bool) →
+    says s (inState Slave Present mode) (slavesWay s) ≡ message.Locked ∷ calibrateOf s ∷ calibratedOf s ∷ []
+slave-says s mode = slave-by (s .calibrate) s mode
+
+master-by : (needed : Bool) (s : Settings) (mode : Bool) →
+    says (with needed s) (inState Master MLock mode) (mastersWay (with needed s)) ≡ calibrateOf (with needed s) ∷ calibratedOf s ∷ message.ModeOn ∷ []
+unfolding says stepped
+master-by true s mode = refl
+master-by false s mode = refl
+
+pub master-says : (s : Settings) (mode : Bool) →
+    says s (inState Master MLock mode) (mastersWay s) ≡ calibrateOf s ∷ calibratedOf s ∷ message.ModeOn ∷ []
+master-says s mode = master-by (s .calibrate) s mode

@@ -15,7 +15,7 @@ use Rattle.link.specs.declared.machine.Sends.the-variants.{Nothing, One,
 use Rattle.link.specs.declared.machine.Stepped.{Stepped}
 use Rattle.link.specs.declared.machine.Waits.{Waits}
 use Rattle.link.specs.declared.machine.Waits.the-variants as waits
-use Rattle.link.specs.Machine.{numberOf, isIdle, waitsOf, stepped}
+use Rattle.link.specs.Machine.{LOCK, LOCKED, CALIBRATE, CALIBRATED, WR-MODE-ON, numberOf, isIdle, waitsOf, stepped}
 
 -- the two links, the messages on their way to each, and who has reported link on
 pub record World : Type 0 where
@@ -120,3 +120,26 @@ module _ (ours theirs : Settings) where
   begins slave master =
       atSlave (Start (theirs .config) (master .mode))
       (record { slave = slave; master = master; toMaster = []; toSlave = []; slaveUp = false; masterUp = false })
+
+-- eight messages and the slave's lock, and the hardware's calibration on each side that needs it
+abbrev pub happenings : Settings → Settings → ℕ
+happenings ours theirs = 9 + pick (ours .calibrate) 1 0 + pick (theirs .calibrate) 1 0
+
+-- what a link sends over a sequence of events, oldest first
+unfoldable pub says : Settings → Link → List Event → List LinkMessage
+says s l [] = []
+says s l (e ∷ es) = messages (stepped s l e .sends) ++ says s (stepped s l e .link) es
+
+-- hardware done, where calibration is needed
+abbrev pub thenDone : Bool → List Event → List Event
+thenDone needed es = pick needed (Done ∷ es) es
+
+-- "Slave: PRESENT .., on LOCK S_LOCK, on hardware done LOCKED .., on CALIBRATE RESP_CALIB_REQ, on CALIBRATED CALIBRATION ..,
+-- on hardware done CALIBRATED .., on WR_MODE_ON link on."
+abbrev pub slavesWay : Settings → List Event
+slavesWay s =
+    Message LOCK ∷ Done ∷ Message CALIBRATE ∷ Message CALIBRATED ∷ thenDone (s .calibrate) (Message WR-MODE-ON ∷ [])
+
+-- "Master: M_LOCK .., on LOCKED CALIBRATION, then CALIBRATED as above, on CALIBRATE RESP_CALIB_REQ, on CALIBRATED link on .."
+abbrev pub mastersWay : Settings → List Event
+mastersWay s = Message LOCKED ∷ thenDone (s .calibrate) (Message CALIBRATE ∷ Message CALIBRATED ∷ [])

@@ -5,3 +5,4 @@
 // that 01 ignores is answered, with the link as it was and nothing to send. When a start is due (the PTP states of 001,
 // 6.7.1), how long a timeout lasts, and the header and target of the Signaling that carries a message are the host's.
 pub mod machine;
+pub mod ports;
