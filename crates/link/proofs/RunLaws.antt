@@ -12,7 +12,7 @@ use Rattle.link.specs.declared.machine.Event.{Event}
 use Rattle.link.specs.declared.machine.Event.the-variants.{Timeout}
 use Rattle.link.specs.Machine.{isIdle, left, stepped}
 use Rattle.link.specs.Run.{Happened, sameState, isTimeout, after, stayed, sinceChange, timeouts, sent, resends, Reported}
-use Rattle.link.proofs.StepLaws.{counted, same-is, step-counts, at-most-three, resends-few, mode-by-link-on, fourth-leaves}
+use Rattle.link.proofs.StepLaws.{counted, same-is, step-counts, at-most, resends-few, mode-by-link-on, fourth-leaves}
 
 -- The retry count is the number of timeouts since the last change of state; in IDLE, where a timeout is ignored, it is zero.
 
@@ -56,7 +56,7 @@ retries-in-idle hs i = zero-in-idle (after hs) (sinceChange hs) (retries-count h
 pub three-at-most : (hs : List Happened) → after hs .retries ≤ 3
 unfolding after
 three-at-most [] = omega arith
-three-at-most (h ∷ older) = at-most-three (h .under) (after older) (h .event) (three-at-most older)
+three-at-most (h ∷ older) = at-most (h .under) (after older) (h .event) 3 (omega arith) (three-at-most older)
 
 module _ (h : Happened) (older : List Happened) (ih : resends older ≤ after older .retries) where
   resent-by-state : (same : Bool) → stayed h older ≡ same →

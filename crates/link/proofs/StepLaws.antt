@@ -204,17 +204,17 @@ module _ (s : Settings) (l : Link) (e : Event) where
   unfolding stepped
   step-counts = counts (rule (s .config) l e)
 
-  -- the count is at most three
-  few : {m : Move} → Rule l e m → l .retries ≤ 3 → taken s l m .link .retries ≤ 3
-  few (ignores c) h = h
-  few (enters o) h = omega arith
-  few (goes-on i) h = omega arith
-  few (resends c r) h = omega arith
-  few leaves h = omega arith
+  -- the count keeps any bound of three or more
+  few : {m : Move} (bound : ℕ) → 3 ≤ bound → Rule l e m → l .retries ≤ bound → taken s l m .link .retries ≤ bound
+  few bound b (ignores c) h = h
+  few bound b (enters o) h = omega arith
+  few bound b (goes-on i) h = omega arith
+  few bound b (resends c r) h = omega arith
+  few bound b leaves h = omega arith
 
-  pub at-most-three : l .retries ≤ 3 → stepped s l e .link .retries ≤ 3
+  pub at-most : (bound : ℕ) → 3 ≤ bound → l .retries ≤ bound → stepped s l e .link .retries ≤ bound
   unfolding stepped
-  at-most-three = few (rule (s .config) l e)
+  at-most bound b = few bound b (rule (s .config) l e)
 
   -- a step that leaves the state sends only what a timeout resends: at most one message
   one-each : (state : State) → sent (messageOf s state) ≤ 1

@@ -2,20 +2,25 @@
 use Prim.Native.Nat.{ℕ, _+_, _-_, _*_, _/_, _%_, _≤_, _<_}
 use mathlib.Core.Path.{_≡_, refl, ap, sym, _∙_}
 use mathlib.Core.Bool.{Bool, true, false, not, _&&_}
+use mathlib.Core.Logic.{_≢_}
 use mathlib.Core.List.{List}
 use native.Mathlib.Omega.{arith}
 use native.Mathlib.Nat.{div-add-mod'}
+use lib.ListN.{length, getD, set, length-set}
+use lib.Seq.{getD-set-same, getD-set-other}
+use Rattle.refusal.specs.Choice.{refuse}
 use lib.Dec.{eqb, leb, ltb}
-use borrow.Author.Tests.{leb-true}
+use borrow.Author.Tests.{leb-true, le-ltb, ltb-true, ltb-false}
 use Rattle.link.specs.declared.machine.Role.{Role}
 use Rattle.link.specs.declared.machine.Role.the-variants.{Slave, Master}
 use Rattle.link.specs.declared.machine.State.{State}
 use Rattle.link.specs.declared.machine.State.the-variants.{Idle, Present, MLock, SLock, Locked, Calibration, Calibrated, RespCalibReq}
 use Rattle.link.specs.declared.machine.Link.{Link}
 use Rattle.link.specs.declared.machine.Settings.{Settings}
+use Rattle.link.specs.declared.machine.Event.{Event}
 use Rattle.link.specs.Machine.{fresh}
-use Rattle.link.proofs.StepLaws.{number-back}
-use Rattle.link.specs.Words.{stateNumber, stateOf, roleNumber, roleOf, bit, wordOf, linkOf, settingsWord, settingsOf, IsPort}
+use Rattle.link.proofs.StepLaws.{number-back, at-most}
+use Rattle.link.specs.Words.{stateNumber, stateOf, roleNumber, roleOf, bit, wordOf, linkOf, settingsWord, settingsOf, IsPort, base, linkAt, settingsAt, settingWords, stepAt, takeWords}
 
 pub state-below : (state : State) → stateNumber state < 8
 state-below Idle = omega arith
@@ -104,3 +109,81 @@ settings-back s c r p =
 pub zero-is-fresh : linkOf 0 ≡ fresh
 unfolding linkOf stateOf
 zero-is-fresh = refl
+
+count-fits : (w : ℕ) → linkOf w .retries ≤ 255
+unfolding linkOf
+count-fits w = omega arith
+
+-- A call changes its own port's words alone: an event the link's word, a setting the settings' three.
+
+module _ (ws : List ℕ) (port : ℕ) where
+  unless-refused : (b : Bool) (vs : List ℕ) (k : ℕ) → getD vs k 0 ≡ getD ws k 0 → getD (refuse b ws vs) k 0 ≡ getD ws k 0
+  unfolding refuse
+  unless-refused true vs k h = refl
+  unless-refused false vs k h = h
+
+  pub take-elsewhere : (e : Event) (k : ℕ) → k ≢ base port → getD (takeWords ws port e) k 0 ≡ getD ws k 0
+  unfolding takeWords
+  take-elsewhere e k h =
+      let w = wordOf (stepAt ws port e .link) in
+      unless-refused (not (IsPort port)) (set ws (base port) w) k (getD-set-other ws (base port) k w 0 h)
+
+  pub set-elsewhere : (s : Settings) (k : ℕ) → k ≢ base port + 1 → k ≢ base port + 2 → k ≢ base port + 3 → getD (settingWords ws port s) k 0 ≡ getD ws k 0
+  unfolding settingWords
+  set-elsewhere s k h1 h2 h3 =
+      let w1 = set ws (base port + 1) (settingsWord s) in
+      let w2 = set w1 (base port + 2) (s .tx) in
+      let w3 = set w2 (base port + 3) (s .rx) in
+      unless-refused (not (IsPort port)) (refuse (ltb 3 (s .config)) ws w3) k
+      (unless-refused (ltb 3 (s .config)) w3 k
+      (getD-set-other w2 (base port + 3) k (s .rx) 0 h3
+      ∙ getD-set-other w1 (base port + 2) k (s .tx) 0 h2
+      ∙ getD-set-other ws (base port + 1) k (settingsWord s) 0 h1))
+
+  module _ (full : length ws ≡ 72) (known : IsPort port ≡ true) where
+    in-words : (j : ℕ) → j < 4 → base port + j < 72
+    in-words j h = let r = port-range port known in omega arith
+
+    -- the port's link is the one that the step answers
+    pub take-kept : (e : Event) → linkAt (takeWords ws port e) port ≡ stepAt ws port e .link
+    unfolding takeWords refuse
+    take-kept e =
+        rw (known, getD-set-same ws (base port) (wordOf (stepAt ws port e .link)) 0 (omega (arith, in-words 0 (omega arith))))
+        (link-back (stepAt ws port e .link)
+        (omega (arith, at-most (settingsAt ws port) (linkAt ws port) e 255 (omega arith) (count-fits (getD ws (base port) 0)))))
+
+    -- the port's settings are those that were set
+    pub set-kept : (s : Settings) → s .config ≤ 3 → s .retry < 256 → s .period < 4294967296 → settingsAt (settingWords ws port s) port ≡ s
+    unfolding settingWords refuse
+    set-kept s c r p =
+        let w1 = set ws (base port + 1) (settingsWord s) in
+        let w2 = set w1 (base port + 2) (s .tx) in
+        let e1 : getD (set w2 (base port + 3) (s .rx)) (base port + 1) 0 ≡ settingsWord s =
+        getD-set-other w2 (base port + 3) (base port + 1) (s .rx) 0 (λ q. omega arith)
+        ∙ getD-set-other w1 (base port + 2) (base port + 1) (s .tx) 0 (λ q. omega arith)
+        ∙ getD-set-same ws (base port + 1) (settingsWord s) 0 (omega (arith, in-words 1 (omega arith))) in
+        let e2 : getD (set w2 (base port + 3) (s .rx)) (base port + 2) 0 ≡ s .tx =
+        getD-set-other w2 (base port + 3) (base port + 2) (s .rx) 0 (λ q. omega arith)
+        ∙ getD-set-same w1 (base port + 2) (s .tx) 0 (simp length-set (omega (arith, in-words 2 (omega arith)))) in
+        let e3 : getD (set w2 (base port + 3) (s .rx)) (base port + 3) 0 ≡ s .rx =
+        getD-set-same w2 (base port + 3) (s .rx) 0 (simp length-set (omega (arith, in-words 3 (omega arith)))) in
+        rw (known, le-ltb 3 (s .config) c, e1, e2, e3) (settings-back s (omega arith) r p)
+
+-- so that other ports' words stay as they are
+module _ (p q : ℕ) (one : 1 ≤ p) (other : 1 ≤ q) (apart : q ≢ p) where
+  by-order : (i j : ℕ) → i < 4 → j < 4 → (b : Bool) → ltb q p ≡ b → base q + j ≢ base p + i
+  by-order i j hi hj true o same = let h = ltb-true q p o in omega arith
+  by-order i j hi hj false o same = let h = ltb-false q p o in apart (omega arith)
+
+  other-place : (i j : ℕ) → i < 4 → j < 4 → base q + j ≢ base p + i
+  other-place i j hi hj = by-order i j hi hj (ltb q p) refl
+
+  pub take-leaves-others : (ws : List ℕ) (e : Event) (j : ℕ) → j < 4 → getD (takeWords ws p e) (base q + j) 0 ≡ getD ws (base q + j) 0
+  take-leaves-others ws e j h = take-elsewhere ws p e (base q + j) (λ same. other-place 0 j (omega arith) h (omega arith))
+
+  pub set-leaves-others : (ws : List ℕ) (s : Settings) (j : ℕ) → j < 4 → getD (settingWords ws p s) (base q + j) 0 ≡ getD ws (base q + j) 0
+  set-leaves-others ws s j h =
+      set-elsewhere ws p s (base q + j)
+      (other-place 1 j (omega arith) h)
+      (other-place 2 j (omega arith) h)
+      (other-place 3 j (omega arith) h)
