@@ -288,6 +288,22 @@ module _ (s : Settings) (l : Link) (e : Event) where
   unfolding stepped onTimeout
   idle-ignores i = rw i
 
+-- A link on its way goes on: what its state waits for changes the state.
+
+module _ (s : Settings) (l : Link) where
+  moves : {m : Move} → Along (l .state) m → sameState (taken s l m .link .state) (l .state) ≡ false
+  moves (to {role} {next} h) = landed-other (s .calibrate) (l .state) next h
+  moves (up i) = idle-same (l .state) ∙ i
+
+  pub message-moves : (n : ℕ) (then : Move) → isIdle (l .state) ≡ false → waitsOf (l .role) (l .state) ≡ waits.Message n then →
+      sameState (stepped s l (Message n) .link .state) (l .state) ≡ false
+  unfolding stepped
+  message-moves n then i w = rw (i, w, eq-eqb n n refl) (moves (rw w at (along (l .role) (l .state))))
+
+  pub done-moves : (then : Move) → waitsOf (l .role) (l .state) ≡ waits.Hardware then → sameState (stepped s l Done .link .state) (l .state) ≡ false
+  unfolding stepped
+  done-moves then w = rw w (moves (rw w at (along (l .role) (l .state))))
+
 -- The report comes exactly when the machine goes through link on.
 
 abbrev isOn : Move → Bool
