@@ -160,10 +160,6 @@ abbrev pub modeOnOf : Role → Sends
 modeOnOf Slave = Nothing
 modeOnOf Master = One message.ModeOn
 
--- a link that has not started: IDLE with mode off
-abbrev pub fresh : Link
-fresh = record { role = Slave; state = Idle; retries = 0; mode = false }
-
 -- "ignored and changes nothing"
 abbrev pub ignored : Link → Stepped
 ignored l = record { link = l; sends = Nothing; report = false }
@@ -171,6 +167,10 @@ ignored l = record { link = l; sends = Nothing; report = false }
 -- "A change of state zeroes the retry count."
 abbrev pub inState : Role → State → Bool → Link
 inState role state mode = record { role = role; state = state; retries = 0; mode = mode }
+
+-- a link that has not started: IDLE with mode off
+abbrev pub fresh : Link
+fresh = inState Slave Idle false
 
 -- "A port that needs no calibration sends CALIBRATE with pattern 0 (else 1) and CALIBRATED in one step"
 abbrev pub Skips : Settings → State → Bool

@@ -313,18 +313,6 @@ fn mode_on_of(role: Role) -> Sends
     }
 }
 
-// The link of a port that has not started: IDLE with mode off.
-pub fn fresh() -> Link
-    ensures { λ r. ⌜ r ≡ fresh ⌝ }
-{
-    Link {
-        role: Role::Slave,
-        state: State::Idle,
-        retries: 0,
-        mode: false,
-    }
-}
-
 fn ignored(l: Link) -> Stepped
     ensures { λ r. ⌜ r ≡ ignored l ⌝ }
 {
@@ -345,6 +333,13 @@ fn in_state(role: Role, state: State, mode: bool) -> Link
         retries: 0,
         mode,
     }
+}
+
+// The link of a port that has not started: IDLE with mode off.
+pub fn fresh() -> Link
+    ensures { λ r. ⌜ r ≡ fresh ⌝ }
+{
+    in_state(Role::Slave, State::Idle, false)
 }
 
 // A state entered sends its message. Where no calibration is needed CALIBRATION goes on to CALIBRATED in one step.
