@@ -8,13 +8,13 @@ use native.Mathlib.Omega.{arith}
 use Rattle.refusal.specs.Choice.{pick}
 use Rattle.tlv.specs.declared.wr.LinkMessage.{LinkMessage}
 use Rattle.tlv.specs.declared.wr.LinkMessage.the-variants as message
-use Rattle.link.specs.declared.machine.Role.{Role}
-use Rattle.link.specs.declared.machine.Role.the-variants.{Slave, Master}
-use Rattle.link.specs.declared.machine.State.{State}
-use Rattle.link.specs.declared.machine.State.the-variants.{Idle, Present, MLock, SLock, Locked, Calibration, Calibrated, RespCalibReq}
-use Rattle.link.specs.declared.machine.Link.{Link}
-use Rattle.link.specs.declared.machine.Settings.{Settings}
-use Rattle.link.specs.declared.machine.Event.the-variants.{Start, Message}
+use Rattle.link.specs.declared.Role.{Role}
+use Rattle.link.specs.declared.Role.the-variants.{Slave, Master}
+use Rattle.link.specs.declared.State.{State}
+use Rattle.link.specs.declared.State.the-variants.{Idle, Present, MLock, SLock, Locked, Calibration, Calibrated, RespCalibReq}
+use Rattle.link.specs.declared.Link.{Link}
+use Rattle.link.specs.declared.Settings.{Settings}
+use Rattle.link.specs.declared.Event.the-variants.{Start, Message}
 use Rattle.link.specs.Machine.{isIdle, CanSlave, CanMaster, onStart, onSlavePresent, calibrateOf, calibratedOf, waitsOf, inState, stepped}
 use Rattle.link.proofs.StepLaws.{idle-is}
 use Rattle.link.specs.Conversation.{World, Act, ToMaster, ToSlave, SlaveDone, MasterDone, waitsForHardware, Can, CanSome, BothUp, act, Comes, begins, happenings, says, thenDone, slavesWay, mastersWay}

@@ -1,4 +1,4 @@
--- The contract of each public function fixes its answer and the lent words at exit: any two results that it allows are equal. And a
+-- The contract of each public function fixes its answer: any two results that it allows are equal. And a
 -- machine that works at its first event and then stands still is not allowed.
 use Prim.Native.Nat.{ℕ}
 use mathlib.Core.Path.{_≡_, refl, _∙_, sym}
@@ -6,24 +6,19 @@ use mathlib.Core.Bool.{Bool, false}
 use contract.Lifetimes.{Lfts}
 use borrow.Fn.Kinds.{Dens, resT, endedOf}
 use denote.Triple.Clauses.{AtExit}
-use denote.Ref.{now}
-use Rattle.link.specs.declared.machine.Role.the-variants.{Slave}
-use Rattle.link.specs.declared.machine.State.the-variants.{Present, SLock}
-use Rattle.link.specs.declared.machine.Event.the-variants.{Message}
-use Rattle.link.specs.declared.machine.Settings.{Settings}
-use Rattle.link.specs.declared.machine.Move.{Move}
-use Rattle.link.specs.declared.machine.Waits.the-variants as waits
+use Rattle.link.specs.declared.Role.the-variants.{Slave}
+use Rattle.link.specs.declared.State.the-variants.{Present, SLock}
+use Rattle.link.specs.declared.Event.the-variants.{Message}
+use Rattle.link.specs.declared.Settings.{Settings}
+use Rattle.link.specs.declared.Move.{Move}
+use Rattle.link.specs.declared.Waits.the-variants as waits
 use Rattle.link.specs.Machine.{LOCK, isIdle, waitsOf, inState, stepped}
-use Rattle.link.specs.Run.{sameState}
+use Rattle.link.specs.States.{sameState}
 use Rattle.link.proofs.StepLaws.{message-moves}
-use Rattle.link.proofs.machine.fresh.Reads as fresh
-use Rattle.link.proofs.machine.fresh.Kinds as fresh-kinds
-use Rattle.link.proofs.machine.step.Reads as step
-use Rattle.link.proofs.machine.step.Kinds as step-kinds
-use Rattle.link.proofs.ports.set.Reads as set
-use Rattle.link.proofs.ports.set.Kinds as set-kinds
-use Rattle.link.proofs.ports.take.Reads as take
-use Rattle.link.proofs.ports.take.Kinds as take-kinds
+use Rattle.link.proofs.fresh.Reads as fresh
+use Rattle.link.proofs.fresh.Kinds as fresh-kinds
+use Rattle.link.proofs.step.Reads as step
+use Rattle.link.proofs.step.Kinds as step-kinds
 
 lock-in-present : (s : Settings) (mode : Bool) → stepped s (inState Slave Present mode) (Message LOCK) .link .state ≡ SLock
 unfolding stepped
@@ -45,11 +40,3 @@ module _ (κs : Lfts 0) (a : Dens κs step-kinds.ps) (x y : resT step-kinds.r κ
   -- so a slave in PRESENT, where a first event leads, goes to S_LOCK by LOCK
   pub second-event : (mode : Bool) → a .1 .0 ≡ inState Slave Present mode → a .1 .1 .0 ≡ Message LOCK → step.Post κs a x e → x .link .state ≡ SLock
   second-event mode l m p = let q : x ≡ stepped (a .0) (a .1 .0) (a .1 .1 .0) = p in rw (q, l, m) (lock-in-present (a .0) mode)
-
-module _ (κs : Lfts 1) (a : Dens κs set-kinds.ps) (x y : resT set-kinds.r κs .Denot) (e f : AtExit (endedOf 1 set-kinds.ps set-kinds.r) κs) where
-  pub set-determined : set.Post κs a x e → set.Post κs a y f → (x ≡ y) × (now (e .0) ≡ now (f .0))
-  set-determined p q = (p .0 ∙ sym (q .0), p .1 ∙ sym (q .1))
-
-module _ (κs : Lfts 1) (a : Dens κs take-kinds.ps) (x y : resT take-kinds.r κs .Denot) (e f : AtExit (endedOf 1 take-kinds.ps take-kinds.r) κs) where
-  pub take-determined : take.Post κs a x e → take.Post κs a y f → (x ≡ y) × (now (e .0) ≡ now (f .0))
-  take-determined p q = (p .0 ∙ sym (q .0), p .1 ∙ sym (q .1))

@@ -6,12 +6,13 @@ use mathlib.Core.List.{List, [], _∷_}
 use mathlib.Core.Logic.{⊎-elim}
 use native.Mathlib.Omega.{arith}
 use Rattle.refusal.specs.Choice.{pick}
-use Rattle.link.specs.declared.machine.Link.{Link}
-use Rattle.link.specs.declared.machine.Settings.{Settings}
-use Rattle.link.specs.declared.machine.Event.{Event}
-use Rattle.link.specs.declared.machine.Event.the-variants.{Timeout}
+use Rattle.link.specs.declared.Link.{Link}
+use Rattle.link.specs.declared.Settings.{Settings}
+use Rattle.link.specs.declared.Event.{Event}
+use Rattle.link.specs.declared.Event.the-variants.{Timeout}
 use Rattle.link.specs.Machine.{isIdle, left, stepped}
-use Rattle.link.specs.Run.{Happened, sameState, isTimeout, after, stayed, sinceChange, timeouts, sent, resends, Reported}
+use Rattle.link.specs.States.{sameState}
+use Rattle.link.specs.Run.{Happened, isTimeout, after, stayed, sinceChange, timeouts, sent, resends, Reported}
 use Rattle.link.proofs.StepLaws.{counted, same-is, step-counts, at-most, resends-few, mode-by-link-on, fourth-leaves}
 
 -- The retry count is the number of timeouts since the last change of state; in IDLE, where a timeout is ignored, it is zero.

@@ -7,24 +7,24 @@ use lib.Dec.{eqb, ltb}
 use native.Mathlib.Omega.{arith}
 use borrow.Author.Tests.{eq-eqb, eqb-true, ltb-true, ltb-false, le-ltb, lt-ltb}
 use Rattle.refusal.specs.Choice.{pick}
-use Rattle.link.specs.declared.machine.Role.{Role}
-use Rattle.link.specs.declared.machine.Role.the-variants.{Slave, Master}
-use Rattle.link.specs.declared.machine.State.{State}
-use Rattle.link.specs.declared.machine.State.the-variants.{Idle, Present, MLock, SLock, Locked, Calibration, Calibrated, RespCalibReq}
-use Rattle.link.specs.declared.machine.Link.{Link}
-use Rattle.link.specs.declared.machine.Settings.{Settings}
-use Rattle.link.specs.declared.machine.Event.{Event}
-use Rattle.link.specs.declared.machine.Event.the-variants.{Start, Message, Done, Timeout, Stop}
-use Rattle.link.specs.declared.machine.Sends.{Sends}
-use Rattle.link.specs.declared.machine.Sends.the-variants.{Nothing, One, Two}
-use Rattle.link.specs.declared.machine.Stepped.{Stepped}
-use Rattle.link.specs.declared.machine.Move.{Move}
-use Rattle.link.specs.declared.machine.Move.the-variants.{Ignore, Enter, LinkOn, Resend, Leave}
-use Rattle.link.specs.declared.machine.Waits.{Waits}
-use Rattle.link.specs.declared.machine.Waits.the-variants as waits
+use Rattle.link.specs.declared.Role.{Role}
+use Rattle.link.specs.declared.Role.the-variants.{Slave, Master}
+use Rattle.link.specs.declared.State.{State}
+use Rattle.link.specs.declared.State.the-variants.{Idle, Present, MLock, SLock, Locked, Calibration, Calibrated, RespCalibReq}
+use Rattle.link.specs.declared.Link.{Link}
+use Rattle.link.specs.declared.Settings.{Settings}
+use Rattle.link.specs.declared.Event.{Event}
+use Rattle.link.specs.declared.Event.the-variants.{Start, Message, Done, Timeout, Stop}
+use Rattle.link.specs.declared.Sends.{Sends}
+use Rattle.link.specs.declared.Sends.the-variants.{Nothing, One, Two}
+use Rattle.link.specs.declared.Stepped.{Stepped}
+use Rattle.link.specs.declared.Move.{Move}
+use Rattle.link.specs.declared.Move.the-variants.{Ignore, Enter, LinkOn, Resend, Leave}
+use Rattle.link.specs.declared.Waits.{Waits}
+use Rattle.link.specs.declared.Waits.the-variants as waits
 use Rattle.link.specs.Machine.{SLAVE-PRESENT, LOCK, LOCKED, CALIBRATE, CALIBRATED, WR-MODE-ON, isIdle, isCalibration, CanSlave, CanMaster, onStart, onSlavePresent, waitsOf, onMessage, onDone, onTimeout, asked, calibrateOf, calibratedOf, messageOf, ignored, inState, entered, resent, left, taken, stepped}
-use Rattle.link.specs.Words.{stateNumber, stateOf}
-use Rattle.link.specs.Run.{sameState, isTimeout, sent, isMessage, GoesOn}
+use Rattle.link.specs.States.{stateNumber, stateOf, sameState}
+use Rattle.link.specs.Run.{isTimeout, sent, isMessage, GoesOn}
 
 -- States.
 

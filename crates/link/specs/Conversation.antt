@@ -6,15 +6,15 @@ use mathlib.Core.Bool.{Bool, true, false, not, _&&_, _||_}
 use mathlib.Core.List.{List, [], _∷_, _++_}
 use Rattle.refusal.specs.Choice.{pick}
 use Rattle.tlv.specs.declared.wr.LinkMessage.{LinkMessage}
-use Rattle.link.specs.declared.machine.Link.{Link}
-use Rattle.link.specs.declared.machine.Settings.{Settings}
-use Rattle.link.specs.declared.machine.Event.{Event}
-use Rattle.link.specs.declared.machine.Event.the-variants.{Start, Message, Done}
-use Rattle.link.specs.declared.machine.Sends.{Sends}
-use Rattle.link.specs.declared.machine.Sends.the-variants.{Nothing, One, Two}
-use Rattle.link.specs.declared.machine.Stepped.{Stepped}
-use Rattle.link.specs.declared.machine.Waits.{Waits}
-use Rattle.link.specs.declared.machine.Waits.the-variants as waits
+use Rattle.link.specs.declared.Link.{Link}
+use Rattle.link.specs.declared.Settings.{Settings}
+use Rattle.link.specs.declared.Event.{Event}
+use Rattle.link.specs.declared.Event.the-variants.{Start, Message, Done}
+use Rattle.link.specs.declared.Sends.{Sends}
+use Rattle.link.specs.declared.Sends.the-variants.{Nothing, One, Two}
+use Rattle.link.specs.declared.Stepped.{Stepped}
+use Rattle.link.specs.declared.Waits.{Waits}
+use Rattle.link.specs.declared.Waits.the-variants as waits
 use Rattle.link.specs.Machine.{LOCK, LOCKED, CALIBRATE, CALIBRATED, WR-MODE-ON, numberOf, isIdle, waitsOf, stepped}
 
 -- the two links, the messages on their way to each, and who has reported link on

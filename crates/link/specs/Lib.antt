@@ -1,4 +1,4 @@
 pub mod Machine
-pub mod Words
+pub mod States
 pub mod Run
 pub mod Conversation

@@ -5,27 +5,23 @@ use mathlib.Core.Bool.{Bool, true, false, not, _&&_, _||_}
 use mathlib.Core.List.{List, [], _∷_}
 use lib.Dec.{eqb}
 use Rattle.refusal.specs.Choice.{pick}
-use Rattle.link.specs.declared.machine.Role.{Role}
-use Rattle.link.specs.declared.machine.Role.the-variants.{Slave, Master}
-use Rattle.link.specs.declared.machine.State.{State}
-use Rattle.link.specs.declared.machine.State.the-variants.{Idle, Present, MLock, SLock, Locked, Calibration, Calibrated, RespCalibReq}
-use Rattle.link.specs.declared.machine.Link.{Link}
-use Rattle.link.specs.declared.machine.Settings.{Settings}
-use Rattle.link.specs.declared.machine.Event.{Event}
-use Rattle.link.specs.declared.machine.Event.the-variants.{Start, Message, Done, Timeout, Stop}
-use Rattle.link.specs.declared.machine.Sends.{Sends}
-use Rattle.link.specs.declared.machine.Sends.the-variants.{Nothing, One, Two}
-use Rattle.link.specs.declared.machine.Stepped.{Stepped}
-use Rattle.link.specs.Words.{stateNumber}
+use Rattle.link.specs.declared.Role.{Role}
+use Rattle.link.specs.declared.Role.the-variants.{Slave, Master}
+use Rattle.link.specs.declared.State.{State}
+use Rattle.link.specs.declared.State.the-variants.{Idle, Present, MLock, SLock, Locked, Calibration, Calibrated, RespCalibReq}
+use Rattle.link.specs.declared.Link.{Link}
+use Rattle.link.specs.declared.Settings.{Settings}
+use Rattle.link.specs.declared.Event.{Event}
+use Rattle.link.specs.declared.Event.the-variants.{Start, Message, Done, Timeout, Stop}
+use Rattle.link.specs.declared.Sends.{Sends}
+use Rattle.link.specs.declared.Sends.the-variants.{Nothing, One, Two}
+use Rattle.link.specs.declared.Stepped.{Stepped}
+use Rattle.link.specs.States.{sameState}
 use Rattle.link.specs.Machine.{CALIBRATED, WR-MODE-ON, fresh, stepped}
 
 pub record Happened : Type 0 where
   pub under : Settings
   pub event : Event
-
--- whether two states are one
-abbrev pub sameState : State → State → Bool
-sameState a b = eqb (stateNumber a) (stateNumber b)
 
 abbrev pub isTimeout : Event → Bool
 isTimeout (Start config mode) = false
