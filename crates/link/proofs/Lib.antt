@@ -1,0 +1,4 @@
+pub mod StepLaws
+pub mod RunLaws
+pub mod Conversation
+pub mod Determined
