@@ -11,7 +11,7 @@ use lib.Dec.{eqb, leb}
 use lib.ListN.{length}
 use Rattle.octets.specs.Be.{be}
 use Rattle.refusal.specs.Choice.{pick}
-use Rattle.tlv.specs.Walk.{nextOf, sizeAt, Fits, after, walkBy, walk, first}
+use Rattle.tlv.specs.Walk.{nextOf, sizeAt, Fits, after, walkBy, walk, first, Reached, start, next}
 use Rattle.tlv.specs.declared.walk.Next.{Next}
 use Rattle.tlv.specs.declared.walk.Next.the-variants.{At, Bad}
 
@@ -145,3 +145,28 @@ first-found test t p h =
         → pick b p (first test t q) < length t → Found test t (pick b p (first test t q))
     here true p q f e r l = record { whole = f; passes = e }
     here false p q f e r l = r l
+
+-- as far as the walk comes without finding anything, what is left of it finds what the whole does
+module _ (test : ℕ → Bool) (t : List ℕ) where
+  one-more : {p q : ℕ} → p < length t → nextOf t p ≡ At q → first test t p ≡ pick (test p) p (first test t q)
+  one-more {p} {q} l m = walk-more (length t) (λ (r : ℕ). length t) (λ (r s : ℕ). pick (test r) r s) t p q l m
+
+  passed-over : (b : Bool) (f p q : ℕ) → f ≡ pick b p (first test t q) → p < q → q ≤ f → f ≡ first test t q
+  passed-over true f p q e h l = absurd (omega arith)
+  passed-over false f p q e h l = e
+
+  not-yet : {p : ℕ} → Reached t p → p ≤ first test t 0 → first test t 0 ≡ first test t p
+  not-yet start h = refl
+  not-yet (next {p} {q} r l m) h =
+      let n = next-fits t p m in
+      let e : first test t 0 ≡ first test t p = not-yet r (omega arith) in
+      passed-over (test p) (first test t 0) p q (e ∙ one-more l m) (omega arith) h
+
+  fails : (b : Bool) (f p q : ℕ) → f ≡ pick b p (first test t q) → p < f → b ≡ false
+  fails true f p q e h = absurd (omega arith)
+  fails false f p q e h = refl
+
+  -- a TLV before the one that is found does not pass the test
+  pub first-before : {p q : ℕ} → Reached t p → p < length t → nextOf t p ≡ At q → p < first test t 0 → test p ≡ false
+  first-before {p} {q} r l m h =
+      fails (test p) (first test t 0) p q (not-yet r (omega arith) ∙ one-more l m) h

@@ -1,6 +1,7 @@
 -- The walk over the TLVs of a tail t (01, "Octets of a message": "type 2, length L 2, L octets", "whole TLVs of even
 -- length"). Places are counted from the tail's start, and `length t` is its end.
-use Prim.Native.Nat.{ℕ, zero, suc, _+_, _%_, _≤_}
+use Prim.Native.Nat.{ℕ, zero, suc, _+_, _%_, _<_, _≤_}
+use mathlib.Core.Path.{_≡_}
 use mathlib.Core.List.{List, []}
 use mathlib.Core.Bool.{Bool, true, false}
 use lib.ListN.{length, take, drop}
@@ -59,3 +60,8 @@ first test t p = walk (length t) (λ (q : ℕ). length t) (λ (q r : ℕ). pick 
 -- the data of the TLV at p, nothing at the end
 abbrev pub dataAt : List ℕ → ℕ → List ℕ
 dataAt t p = pick (ltb p (length t)) (take (sizeAt t p) (drop (p + 4) t)) []
+
+-- the places that the walk comes to
+pub data Reached (t : List ℕ) : ℕ → Type 0 where
+  start : Reached t 0
+  next : {p q : ℕ} → Reached t p → p < length t → nextOf t p ≡ At q → Reached t q

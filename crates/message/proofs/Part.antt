@@ -1,0 +1,109 @@
+-- What `lookup` hands back is the data of the first TLV of the type, as a part of the message lent; nothing where the
+-- message is refused or has no such TLV.
+use Prim.Native.Nat.{ℕ, zero, suc, _+_, _-_, _<_, _≤_}
+use mathlib.Core.Path.{_≡_, refl, sym, ap, _∙_}
+use mathlib.Core.List.{List, [], _∷_}
+use mathlib.Core.Bool.{Bool, true, false}
+use native.Mathlib.Omega.{arith}
+use borrow.Author.Tests.{ltb-true, eqb-true}
+use lib.Dec.{ltb}
+use lib.ListN.{length, take, drop}
+use lib.Seq.{take-take, drop-drop, getD-take}
+use Rattle.octets.specs.Be.{be}
+use Rattle.octets.proofs.Laws.{be-drop}
+use Rattle.refusal.specs.Choice.{pick}
+use Rattle.refusal.specs.declared.Refusal.{Refusal}
+use Rattle.refusal.specs.declared.Outcome.{Outcome}
+use Rattle.refusal.specs.declared.Outcome.the-variants as outcome
+use Rattle.tlv.specs.Walk.{sizeAt, walkBy, walk}
+use Rattle.tlv.specs.declared.walk.Sought.the-variants.{OfType}
+use Rattle.tlv.proofs.FaultLaws.{place-found}
+use Rattle.message.specs.Fields.{typeOf, lengthOf, fixedSize, tailOf}
+use Rattle.message.specs.Reading.{checkOf, by}
+use Rattle.message.specs.Parts.{firstOfType, tailIn, dataIn, lookupOf}
+use Rattle.message.specs.declared.parts.TlvRead.{TlvRead}
+use Rattle.message.specs.declared.parts.TlvRead.the-variants.{Found, Absent, Refused}
+use Rattle.message.proofs.Laws.{bounded, tail-length}
+
+-- a part of what was taken is the same part of the whole
+inside : (a l n : ℕ) (s : List ℕ) → a + l ≤ n → take l (drop a (take n s)) ≡ take l (drop a s)
+inside zero l n s h = take-take l n s (omega arith)
+inside (suc a) l zero s h = absurd (omega arith)
+inside (suc a) l (suc n) [] h = refl
+inside (suc a) l (suc n) (x ∷ s) h = inside a l n s (omega arith)
+
+be-take : (n k : ℕ) (s : List ℕ) (at : ℕ) → at + n ≤ k → be n (take k s) at ≡ be n s at
+unfolding be
+be-take zero k s at h = refl
+be-take (suc n) k s at h = rw (be-take n k s at (omega arith), getD-take k s (at + n) 0 (omega arith))
+
+-- a number of the tail is that number of the message
+tail-be : (n : ℕ) (s : List ℕ) (p : ℕ) → p + n ≤ lengthOf s - fixedSize (typeOf s) → be n (tailOf s) p ≡ be n s (fixedSize (typeOf s) + p)
+tail-be n s p h = be-take n (lengthOf s - fixedSize (typeOf s)) (drop (fixedSize (typeOf s)) s) p h ∙ be-drop n (fixedSize (typeOf s)) s p
+
+-- an answer of `lookupOf` that is no refusal was made of an accepted message
+not-refused : (o : Outcome) (x : TlvRead) {at : ℕ} → by o Refused x ≡ Found at → (o ≡ outcome.Done) × (x ≡ Found at)
+not-refused outcome.Done x e = (refl, e)
+not-refused (outcome.Refused r) x e = absurd (let z : _≡_ {A = ℕ} 0 1 = cc in omega arith)
+
+found-by : (b : Bool) (n : ℕ) {at : ℕ} → pick b (Found n) Absent ≡ Found at → (b ≡ true) × (n ≡ at)
+found-by true n e = (refl, cc)
+found-by false n e = absurd (let z : _≡_ {A = ℕ} 0 1 = cc in omega arith)
+
+absent-done : (o : Outcome) (x : TlvRead) → by o Refused x ≡ Absent → (o ≡ outcome.Done) × (x ≡ Absent)
+absent-done outcome.Done x e = (refl, e)
+absent-done (outcome.Refused r) x e = absurd (let z : _≡_ {A = ℕ} 0 1 = cc in omega arith)
+
+absent-by : (b : Bool) (n : ℕ) → pick b (Found n) Absent ≡ Absent → b ≡ false
+absent-by true n e = absurd (let z : _≡_ {A = ℕ} 0 1 = cc in omega arith)
+absent-by false n e = refl
+
+module _ (magic kind : ℕ) (s : List ℕ) where
+  -- where the TLV stands in the tail
+  place : ℕ
+  place = firstOfType kind (tailOf s)
+
+  pub record Part (at : ℕ) : Type 0 where
+    -- the octets of the message from `at` on, as many as the length before them says
+    pub data-is : dataIn magic kind s ≡ take (be 2 s (at - 2)) (drop at s)
+    -- the type before that is the one looked for
+    pub type-is : be 2 s (at - 4) ≡ kind
+    -- and all of it lies before messageLength
+    pub inside-message : at + be 2 s (at - 2) ≤ lengthOf s
+
+  pub found-part : {at : ℕ} → lookupOf magic kind s ≡ Found at → Part at
+  unfolding lookupOf dataIn tailIn place
+  found-part {at} e =
+      let d = not-refused (checkOf magic s) _ e in
+      let f = found-by (ltb place (length (tailOf s))) (fixedSize (typeOf s) + place + 4) (d .1) in
+      let l : place < length (tailOf s) = ltb-true place (length (tailOf s)) (f .0) in
+      let w = place-found (OfType kind) (tailOf s) {p = place} refl l in
+      let b = bounded magic s (d .0) in
+      let n : length (tailOf s) ≡ lengthOf s - fixedSize (typeOf s) = tail-length s b in
+      let h : place + 4 + sizeAt (tailOf s) place ≤ length (tailOf s) = w .whole .fits in
+      let a2 : fixedSize (typeOf s) + (place + 2) ≡ at - 2 = omega arith in
+      let a4 : fixedSize (typeOf s) + place ≡ at - 4 = omega arith in
+      let at-is : fixedSize (typeOf s) + (place + 4) ≡ at = omega arith in
+      let size : sizeAt (tailOf s) place ≡ be 2 s (at - 2) = rw a2 at (tail-be 2 s (place + 2) (omega arith)) in
+      let type : be 2 (tailOf s) place ≡ be 2 s (at - 4) = rw a4 at (tail-be 2 s place (omega arith)) in
+      let cut : place + 4 + be 2 s (at - 2) ≤ lengthOf s - fixedSize (typeOf s) = omega arith in
+      record {
+        data-is = rw (d .0, f .0, size)
+            (inside (place + 4) (be 2 s (at - 2)) (lengthOf s - fixedSize (typeOf s)) (drop (fixedSize (typeOf s)) s) cut
+            ∙ ap (take (be 2 s (at - 2))) (drop-drop (place + 4) (fixedSize (typeOf s)) s ∙ ap (λ (k : ℕ). drop k s) at-is));
+        type-is = sym type ∙ eqb-true (be 2 (tailOf s) place) kind (w .passes);
+        inside-message = omega arith;
+      }
+
+  -- it is empty if refused
+  pub empty-refused : {x : Refusal} → checkOf magic s ≡ outcome.Refused x → dataIn magic kind s ≡ []
+  unfolding dataIn tailIn walk walkBy
+  empty-refused e = rw e
+
+  -- it is empty if absent
+  pub empty-absent : lookupOf magic kind s ≡ Absent → dataIn magic kind s ≡ []
+  unfolding lookupOf dataIn tailIn place
+  empty-absent e =
+      let d = absent-done (checkOf magic s) _ e in
+      let f = absent-by (ltb place (length (tailOf s))) (fixedSize (typeOf s) + place + 4) (d .1) in
+      rw (d .0, f)
