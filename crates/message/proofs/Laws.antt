@@ -1,7 +1,7 @@
 -- What an accepted message says of the octets lent, and the bounds of the fixed sizes.
 use Prim.Native.Nat.{ℕ, _-_, _≤_}
 use mathlib.Core.Path.{_≡_, refl, sym, _∙_}
-use mathlib.Core.List.{List}
+use mathlib.Core.List.{List, []}
 use mathlib.Core.Bool.{Bool, true, false}
 use native.Mathlib.Omega.{arith}
 use borrow.Author.Tests.{ltb-false, eqb-true, eqb-false, not-false}
@@ -12,6 +12,7 @@ use Rattle.refusal.proofs.Choice.{passed}
 use Rattle.refusal.specs.declared.Refusal.{Refusal}
 use Rattle.refusal.specs.declared.Outcome.{Outcome}
 use Rattle.refusal.specs.declared.Outcome.the-variants.{Done, Refused}
+use Rattle.tlv.specs.Walk.{walkBy, walk}
 use Rattle.tlv.specs.Faults.{tailCheck}
 use Rattle.message.specs.Fields.{typeOf, versionOf, lengthOf, fixedSize, tailOf}
 use Rattle.message.specs.Reading.{badStamp, checkOf}
@@ -49,6 +50,11 @@ size-least kind =
 pub size-most : (kind : ℕ) → fixedSize kind ≤ 64
 unfolding fixedSize
 size-most kind = most-by (eqb kind 0x0) (eqb kind 0x1) (eqb kind 0x8) (eqb kind 0x9) (eqb kind 0xB) (eqb kind 0xC)
+
+-- nothing is wrong with no tail
+pub no-tail : (magic : ℕ) → tailCheck magic [] ≡ Done
+unfolding tailCheck refuse walk walkBy
+no-tail magic = refl
 
 no-refusal : (x : Refusal) → Refused x ≡ Done → ⊥
 no-refusal x e = let z : _≡_ {A = ℕ} 0 1 = cc in omega arith

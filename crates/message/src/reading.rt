@@ -53,6 +53,9 @@ pub fn check(s: &[u8], magic: u16) -> Outcome
     if bad_stamp(s, kind) {
         return Outcome::Refused(Refusal::Stamp);
     }
+    if length == size {
+        return Outcome::Done;
+    }
     let tail = &s[size..length];
     tlv::walk::check(tail, magic)
 }

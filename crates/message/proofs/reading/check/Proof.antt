@@ -1,12 +1,13 @@
 -- `reading::check` meets its contract: at each way out the tests before it are known.
-use Prim.Native.Nat.{_≤_}
+use Prim.Native.Nat.{_-_, _≤_}
+use mathlib.Core.Path.{_≡_, sym}
 use native.Mathlib.Omega.{arith}
 use borrow.Author.Tests.{lt-ltb, le-ltb, eq-eqb, ne-eqb}
 use lib.ListN.{length}
 use Rattle.refusal.specs.Choice.{refuse}
 use Rattle.message.specs.Fields.{typeOf, fixedSize}
 use Rattle.message.specs.Reading.{checkOf}
-use Rattle.message.proofs.Laws.{size-least}
+use Rattle.message.proofs.Laws.{size-least, no-tail}
 use borrow.Author.Needs.{needs}
 use Rattle.message.proofs.reading.check.Statement.{statement}
 use Rattle.message.proofs.reading.check.Tie as tie
@@ -79,6 +80,21 @@ returns-6 c =
     let e2 = k .before .before in
     rw (le-ltb _ _ (e2 .before .before .if1 .left), eq-eqb _ _ (e2 .if2 .left), ← k .fixed-size .ensures, ne-eqb _ _ (e3 .if3 .left), ← n .u16-at .ensures, le-ltb _ _ (e4 .if4 .left), le-ltb _ _ (e5 .if5 .left), ← b .bad-stamp .ensures, c .if6 .taken)
 
+returns-7 : tie.Need-returns-7
+unfolding checkOf refuse
+returns-7 c =
+    let e6 = c .before in
+    let b = e6 .before in
+    let e5 = b .before in
+    let e4 = e5 .before in
+    let n = e4 .before in
+    let e3 = n .before in
+    let k = e3 .before in
+    let e2 = k .before .before in
+    let z : n .u16-at .result - k .fixed-size .result ≡ 0 = omega arith in
+    rw (le-ltb _ _ (e2 .before .before .if1 .left), eq-eqb _ _ (e2 .if2 .left), ← k .fixed-size .ensures, ne-eqb _ _ (e3 .if3 .left), ← n .u16-at .ensures, le-ltb _ _ (e4 .if4 .left), le-ltb _ _ (e5 .if5 .left), ← b .bad-stamp .ensures, e6 .if6 .left, z)
+    (sym (no-tail _))
+
 part-tail-start : tie.Need-part-tail-start
 part-tail-start c = search needs
 
@@ -88,10 +104,10 @@ part-tail-end c = search needs
 check-requires : tie.Need-check-requires
 check-requires c κs = search needs
 
-returns-7 : tie.Need-returns-7
+returns-8 : tie.Need-returns-8
 unfolding checkOf refuse
-returns-7 c =
-    let e6 = c .before .before in
+returns-8 c =
+    let e6 = c .before .before .before in
     let b = e6 .before in
     let e5 = b .before in
     let e4 = e5 .before in
@@ -118,7 +134,8 @@ check-spec =
     returns-5
     bad-stamp-requires
     returns-6
+    returns-7
     part-tail-start
     part-tail-end
     check-requires
-    returns-7)
+    returns-8)
