@@ -1,3 +1,4 @@
+-- `bits16` meets its contract: below zero and above it by the laws of two's complement over the width.
 use mathlib.Core.Path.{refl}
 use mir.Syntax.{w16}
 use Rattle.octets.proofs.Twos.{Below, Above, below, above}

@@ -1,3 +1,4 @@
+-- `bits64` meets its contract: below zero and above it by the laws of two's complement over the width.
 use mathlib.Core.Path.{refl}
 use mir.Syntax.{w64}
 use Rattle.octets.proofs.Twos.{Below, Above, below, above}

@@ -1,3 +1,4 @@
+-- `i16_at` meets its contract: by what the reader of the bits and `signed16` ensure.
 use mathlib.Core.Path.{_∙_, ap}
 use mir.Syntax.{w16}
 use mir.Val.{toZ}

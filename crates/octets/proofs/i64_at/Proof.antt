@@ -1,3 +1,4 @@
+-- `i64_at` meets its contract: by what the reader of the bits and `signed64` ensure.
 use mathlib.Core.Path.{_∙_, ap}
 use mir.Syntax.{w64}
 use mir.Val.{toZ}

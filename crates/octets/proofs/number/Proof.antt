@@ -1,3 +1,4 @@
+-- `number` meets its contract: v is the value of the first i octets, below 256 ^ i.
 use Prim.Native.Nat.{ℕ, _+_, _*_, _^_, _≤_, _<_, _-_}
 use mathlib.Core.Path.{_≡_, refl}
 use native.Mathlib.Omega.{arith}

@@ -1,3 +1,4 @@
+-- `octet_behind` meets its contract: past the end of a list stands the default.
 use Prim.Native.Nat.{_+_, _≤_}
 use mathlib.Core.Path.{sym}
 use native.Mathlib.Omega.{arith}

@@ -1,3 +1,4 @@
+-- `signed8` meets its contract: its lower half as it is, its upper half by the law of two's complement over the width.
 use Prim.Native.Nat.{_-_}
 use mathlib.Core.Path.{_≡_, refl, sym, subst, _∙_}
 use lib.IntN.{negsuc, _-ℤ_}

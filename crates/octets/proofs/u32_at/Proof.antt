@@ -1,3 +1,4 @@
+-- `u32_at` meets its contract: the number of four octets fits.
 use native.Mathlib.Omega.{arith}
 use Rattle.octets.proofs.Laws.{be-bound}
 use borrow.Author.Needs.{needs}
