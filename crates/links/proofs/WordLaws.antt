@@ -141,6 +141,14 @@ module _ (ws : List ℕ) (port : ℕ) where
       ∙ getD-set-other w1 (base port + 2) k (s .tx) 0 h2
       ∙ getD-set-other ws (base port + 1) k (settingsWord s) 0 h1))
 
+  -- an event leaves the port's settings, a setting leaves its link
+  pub take-leaves-settings : (e : Event) → settingsAt (takeWords ws port e) port ≡ settingsAt ws port
+  take-leaves-settings e =
+      rw (take-elsewhere e (base port + 1) (λ q. omega arith), take-elsewhere e (base port + 2) (λ q. omega arith), take-elsewhere e (base port + 3) (λ q. omega arith))
+
+  pub set-leaves-link : (s : Settings) → linkAt (settingWords ws port s) port ≡ linkAt ws port
+  set-leaves-link s = rw (set-elsewhere s (base port) (λ q. omega arith) (λ q. omega arith) (λ q. omega arith))
+
   module _ (full : length ws ≡ 72) (known : IsPort port ≡ true) where
     in-words : (j : ℕ) → j < 4 → base port + j < 72
     in-words j h = let r = port-range port known in omega arith
