@@ -1,8 +1,8 @@
 -- A slave and a master of fitting configs, joined by a channel that loses nothing, bring the link up on both sides, in whatever order
 -- things happen. The proof goes back from the end: from each point of the conversation to the next, with what is then on its way.
-use Prim.Native.Nat.{ℕ, zero, suc, _+_}
-use mathlib.Core.Path.{_≡_, refl, ap, sym, subst, _∙_}
-use mathlib.Core.Bool.{Bool, true, false, not, _&&_}
+use Prim.Native.Nat.{ℕ, suc, _+_}
+use mathlib.Core.Path.{_≡_, refl, sym, subst}
+use mathlib.Core.Bool.{Bool, true, false, _&&_}
 use mathlib.Core.List.{List, [], _∷_}
 use native.Mathlib.Omega.{arith}
 use Rattle.refusal.specs.Choice.{pick}
@@ -14,10 +14,9 @@ use Rattle.link.specs.declared.State.{State}
 use Rattle.link.specs.declared.State.the-variants.{Idle, Present, MLock, SLock, Locked, Calibration, Calibrated, RespCalibReq}
 use Rattle.link.specs.declared.Link.{Link}
 use Rattle.link.specs.declared.Settings.{Settings}
-use Rattle.link.specs.declared.Event.the-variants.{Start, Message}
 use Rattle.link.specs.Machine.{isIdle, CanSlave, CanMaster, onStart, onSlavePresent, calibrateOf, calibratedOf, waitsOf, inState, stepped}
 use Rattle.link.proofs.StepLaws.{idle-is}
-use Rattle.link.specs.Conversation.{World, Act, ToMaster, ToSlave, SlaveDone, MasterDone, waitsForHardware, Can, CanSome, BothUp, act, Comes, begins, happenings, says, thenDone, slavesWay, mastersWay}
+use Rattle.link.specs.Conversation.{World, Act, ToMaster, ToSlave, SlaveDone, MasterDone, waitsForHardware, Can, CanSome, act, Comes, begins, happenings, says, slavesWay, mastersWay}
 
 -- these settings, where calibration is needed or not
 abbrev with : Bool → Settings → Settings

@@ -13,7 +13,7 @@ use Rattle.link.specs.declared.Event.the-variants.{Timeout}
 use Rattle.link.specs.Machine.{isIdle, left, stepped}
 use Rattle.link.specs.States.{sameState}
 use Rattle.link.specs.Run.{Happened, isTimeout, after, stayed, sinceChange, timeouts, sent, resends, Reported}
-use Rattle.link.proofs.StepLaws.{counted, same-is, step-counts, at-most, resends-few, mode-by-link-on, fourth-leaves}
+use Rattle.link.proofs.StepLaws.{same-is, step-counts, at-most, resends-few, mode-by-link-on, fourth-leaves}
 
 -- The retry count is the number of timeouts since the last change of state; in IDLE, where a timeout is ignored, it is zero.
 

@@ -5,7 +5,7 @@ use mathlib.Core.Bool.{Bool, true, false, not, _&&_}
 use mathlib.Core.Logic.{_⊎_, inl, inr}
 use lib.Dec.{eqb, ltb}
 use native.Mathlib.Omega.{arith}
-use borrow.Author.Tests.{eq-eqb, eqb-true, ltb-true, ltb-false, le-ltb, lt-ltb}
+use borrow.Author.Tests.{eq-eqb, eqb-true, ltb-true, lt-ltb}
 use Rattle.refusal.specs.Choice.{pick}
 use Rattle.link.specs.declared.Role.{Role}
 use Rattle.link.specs.declared.Role.the-variants.{Slave, Master}
@@ -15,14 +15,12 @@ use Rattle.link.specs.declared.Link.{Link}
 use Rattle.link.specs.declared.Settings.{Settings}
 use Rattle.link.specs.declared.Event.{Event}
 use Rattle.link.specs.declared.Event.the-variants.{Start, Message, Done, Timeout, Stop}
-use Rattle.link.specs.declared.Sends.{Sends}
-use Rattle.link.specs.declared.Sends.the-variants.{Nothing, One, Two}
-use Rattle.link.specs.declared.Stepped.{Stepped}
+use Rattle.link.specs.declared.Sends.the-variants.{Nothing}
 use Rattle.link.specs.declared.Move.{Move}
 use Rattle.link.specs.declared.Move.the-variants.{Ignore, Enter, LinkOn, Resend, Leave}
 use Rattle.link.specs.declared.Waits.{Waits}
 use Rattle.link.specs.declared.Waits.the-variants as waits
-use Rattle.link.specs.Machine.{SLAVE-PRESENT, LOCK, LOCKED, CALIBRATE, CALIBRATED, WR-MODE-ON, isIdle, isCalibration, CanSlave, CanMaster, onStart, onSlavePresent, waitsOf, onMessage, onDone, onTimeout, asked, calibrateOf, calibratedOf, messageOf, ignored, inState, entered, resent, left, taken, stepped}
+use Rattle.link.specs.Machine.{SLAVE-PRESENT, LOCK, LOCKED, CALIBRATE, CALIBRATED, WR-MODE-ON, isIdle, isCalibration, CanSlave, CanMaster, onStart, onSlavePresent, waitsOf, onMessage, onDone, onTimeout, asked, messageOf, ignored, inState, resent, left, taken, stepped}
 use Rattle.link.specs.States.{stateNumber, stateOf, sameState}
 use Rattle.link.specs.Run.{isTimeout, sent, isMessage, GoesOn}
 
@@ -287,6 +285,42 @@ module _ (s : Settings) (l : Link) (e : Event) where
   pub idle-ignores : isIdle (l .state) ≡ true → stepped s l Timeout ≡ ignored l
   unfolding stepped onTimeout
   idle-ignores i = rw i
+
+-- What is ignored: a start outside IDLE, or of a parent that is no master; a message or hardware done that is not waited for.
+
+module _ (s : Settings) (l : Link) where
+  pub start-elsewhere : (parent : ℕ) (mode : Bool) → isIdle (l .state) ≡ false → stepped s l (Start parent mode) ≡ ignored l
+  unfolding stepped onStart
+  start-elsewhere parent mode i = rw i
+
+  pub no-master : (parent : ℕ) (mode : Bool) → CanMaster parent ≡ false → stepped s l (Start parent mode) ≡ ignored l
+  unfolding stepped onStart
+  no-master parent mode c = rw (c, and-false (isIdle (l .state) && CanSlave (s .config)))
+
+  pub both-modes-on : (parent : ℕ) → l .mode ≡ true → stepped s l (Start parent true) ≡ ignored l
+  unfolding stepped onStart
+  both-modes-on parent m = rw (m, and-false (isIdle (l .state) && CanSlave (s .config) && CanMaster parent))
+
+  pub idle-message : (n : ℕ) → isIdle (l .state) ≡ true → eqb n SLAVE-PRESENT ≡ false → stepped s l (Message n) ≡ ignored l
+  unfolding stepped onSlavePresent
+  idle-message n i d = rw (i, d, and-false (CanMaster (s .config)))
+
+  pub other-message : (n awaited : ℕ) (then : Move) → isIdle (l .state) ≡ false → waitsOf (l .role) (l .state) ≡ waits.Message awaited then → eqb n awaited ≡ false →
+      stepped s l (Message n) ≡ ignored l
+  unfolding stepped
+  other-message n awaited then i w d = rw (i, w, d)
+
+  pub message-while-hardware : (n : ℕ) (then : Move) → isIdle (l .state) ≡ false → waitsOf (l .role) (l .state) ≡ waits.Hardware then → stepped s l (Message n) ≡ ignored l
+  unfolding stepped
+  message-while-hardware n then i w = rw (i, w)
+
+  pub done-while-message : (awaited : ℕ) (then : Move) → waitsOf (l .role) (l .state) ≡ waits.Message awaited then → stepped s l Done ≡ ignored l
+  unfolding stepped
+  done-while-message awaited then w = rw w
+
+  pub nothing-awaited : (n : ℕ) → isIdle (l .state) ≡ false → waitsOf (l .role) (l .state) ≡ waits.Nothing → (stepped s l (Message n) ≡ ignored l) × (stepped s l Done ≡ ignored l)
+  unfolding stepped
+  nothing-awaited n i w = (rw (i, w), rw w)
 
 -- A link on its way goes on: what its state waits for changes the state.
 

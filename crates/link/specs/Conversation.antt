@@ -12,7 +12,6 @@ use Rattle.link.specs.declared.Event.{Event}
 use Rattle.link.specs.declared.Event.the-variants.{Start, Message, Done}
 use Rattle.link.specs.declared.Sends.{Sends}
 use Rattle.link.specs.declared.Sends.the-variants.{Nothing, One, Two}
-use Rattle.link.specs.declared.Stepped.{Stepped}
 use Rattle.link.specs.declared.Waits.{Waits}
 use Rattle.link.specs.declared.Waits.the-variants as waits
 use Rattle.link.specs.Machine.{LOCK, LOCKED, CALIBRATE, CALIBRATED, WR-MODE-ON, numberOf, isIdle, waitsOf, stepped}

@@ -1,21 +1,20 @@
 -- A link over any sequence of events (01, "The WR link"). A history is what has happened to a link since it was fresh, newest
 -- first; each event comes under the settings of its moment.
 use Prim.Native.Nat.{ℕ, _+_}
-use mathlib.Core.Bool.{Bool, true, false, not, _&&_, _||_}
+use mathlib.Core.Bool.{Bool, true, false, _&&_, _||_}
 use mathlib.Core.List.{List, [], _∷_}
 use lib.Dec.{eqb}
 use Rattle.refusal.specs.Choice.{pick}
 use Rattle.link.specs.declared.Role.{Role}
 use Rattle.link.specs.declared.Role.the-variants.{Slave, Master}
 use Rattle.link.specs.declared.State.{State}
-use Rattle.link.specs.declared.State.the-variants.{Idle, Present, MLock, SLock, Locked, Calibration, Calibrated, RespCalibReq}
+use Rattle.link.specs.declared.State.the-variants.{Calibrated, RespCalibReq}
 use Rattle.link.specs.declared.Link.{Link}
 use Rattle.link.specs.declared.Settings.{Settings}
 use Rattle.link.specs.declared.Event.{Event}
 use Rattle.link.specs.declared.Event.the-variants.{Start, Message, Done, Timeout, Stop}
 use Rattle.link.specs.declared.Sends.{Sends}
 use Rattle.link.specs.declared.Sends.the-variants.{Nothing, One, Two}
-use Rattle.link.specs.declared.Stepped.{Stepped}
 use Rattle.link.specs.States.{sameState}
 use Rattle.link.specs.Machine.{CALIBRATED, WR-MODE-ON, fresh, stepped}
 

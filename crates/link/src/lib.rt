@@ -14,6 +14,7 @@ use tlv::form::MODE_ON;
 use tlv::form::SLAVE_PRESENT;
 use tlv::wr::LinkMessage;
 
+// Which side of the link a port is.
 pub enum Role {
     Slave,
     Master,
@@ -59,6 +60,7 @@ pub enum Event {
     Stop,
 }
 
+// What a step sends. The host puts each message into a Signaling.
 pub enum Sends {
     Nothing,
     One(LinkMessage),
@@ -88,6 +90,7 @@ pub enum Waits {
     Hardware(Move),
 }
 
+// Whether the state is IDLE, where a start is taken and a timeout is not.
 fn is_idle(state: State) -> bool
     ensures { λ r. ⌜ r ≡ isIdle state ⌝ }
 {
@@ -103,6 +106,7 @@ fn is_idle(state: State) -> bool
     }
 }
 
+// Whether the state is CALIBRATION, which a port that needs none passes through.
 fn is_calibration(state: State) -> bool
     ensures { λ r. ⌜ r ≡ isCalibration state ⌝ }
 {
@@ -118,12 +122,14 @@ fn is_calibration(state: State) -> bool
     }
 }
 
+// Config 2 or 3.
 fn can_slave(config: u8) -> bool
     ensures { λ r. ⌜ r ≡ CanSlave config ⌝ }
 {
     (config == 2) | (config == 3)
 }
 
+// Config 1 or 3.
 fn can_master(config: u8) -> bool
     ensures { λ r. ⌜ r ≡ CanMaster config ⌝ }
 {
@@ -192,6 +198,7 @@ fn master_waits(state: State) -> Waits
     }
 }
 
+// What a link waits for, by its role.
 fn waits_of(role: Role, state: State) -> Waits
     ensures { λ r. ⌜ r ≡ waitsOf role state ⌝ }
 {
@@ -315,6 +322,7 @@ fn mode_on_of(role: Role) -> Sends
     }
 }
 
+// Nothing is changed, sent or reported.
 fn ignored(l: Link) -> Stepped
     ensures { λ r. ⌜ r ≡ ignored l ⌝ }
 {
@@ -404,6 +412,7 @@ fn left(role: Role) -> Stepped
     }
 }
 
+// The step of a link that makes a move.
 fn taken(s: Settings, l: Link, m: Move) -> Stepped
     ensures { λ r. ⌜ r ≡ taken s l m ⌝ }
 {

@@ -1,6 +1,6 @@
 -- Links and settings in words: what is packed comes back, a call changes its own port's words alone, and zeroed words are fresh links.
-use Prim.Native.Nat.{ℕ, _+_, _-_, _*_, _/_, _%_, _≤_, _<_}
-use mathlib.Core.Path.{_≡_, refl, ap, sym, _∙_}
+use Prim.Native.Nat.{ℕ, _+_, _*_, _/_, _%_, _≤_, _<_}
+use mathlib.Core.Path.{_≡_, refl, ap, _∙_}
 use mathlib.Core.Bool.{Bool, true, false, not, _&&_}
 use mathlib.Core.Logic.{_≢_}
 use mathlib.Core.List.{List}
@@ -140,6 +140,14 @@ module _ (ws : List ℕ) (port : ℕ) where
       (getD-set-other w2 (base port + 3) k (s .rx) 0 h3
       ∙ getD-set-other w1 (base port + 2) k (s .tx) 0 h2
       ∙ getD-set-other ws (base port + 1) k (settingsWord s) 0 h1))
+
+  -- an event leaves the port's settings, a setting leaves its link
+  pub take-leaves-settings : (e : Event) → settingsAt (takeWords ws port e) port ≡ settingsAt ws port
+  take-leaves-settings e =
+      rw (take-elsewhere e (base port + 1) (λ q. omega arith), take-elsewhere e (base port + 2) (λ q. omega arith), take-elsewhere e (base port + 3) (λ q. omega arith))
+
+  pub set-leaves-link : (s : Settings) → linkAt (settingWords ws port s) port ≡ linkAt ws port
+  set-leaves-link s = rw (set-elsewhere s (base port) (λ q. omega arith) (λ q. omega arith) (λ q. omega arith))
 
   module _ (full : length ws ≡ 72) (known : IsPort port ≡ true) where
     in-words : (j : ℕ) → j < 4 → base port + j < 72

@@ -1,7 +1,7 @@
 -- How eighteen links and their settings lie in the words that the host lends: four words a port, the link's, its settings', deltaTx
 -- and deltaRx. Any words are links; zeroed words are fresh ones, with config 0.
 use Prim.Native.Nat.{ℕ, _+_, _-_, _*_, _/_, _%_}
-use mathlib.Core.Bool.{Bool, true, false, not, _&&_}
+use mathlib.Core.Bool.{Bool, not, _&&_}
 use mathlib.Core.List.{List}
 use lib.ListN.{getD, set}
 use lib.Dec.{eqb, leb, ltb}

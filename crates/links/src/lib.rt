@@ -22,12 +22,14 @@ pub enum Taken {
     Refused(Refusal),
 }
 
+// A bool as a bit of a word.
 fn bit(b: bool) -> u64
     ensures { λ r. ⌜ r ≡ bit b ⌝ }
 {
     if b { 1 } else { 0 }
 }
 
+// A state in three bits of a word; IDLE is 0.
 fn state_number(state: State) -> u64
     ensures { λ r. ⌜ r ≡ stateNumber state ⌝ }
 {
@@ -43,6 +45,7 @@ fn state_number(state: State) -> u64
     }
 }
 
+// The state that three bits stand for.
 fn state_of(n: u64) -> State
     ensures { λ r. ⌜ r ≡ stateOf n ⌝ }
 {
@@ -58,6 +61,7 @@ fn state_of(n: u64) -> State
     }
 }
 
+// A role as a bit of a word; a slave is 0.
 fn role_number(role: Role) -> u64
     ensures { λ r. ⌜ r ≡ roleNumber role ⌝ }
 {
@@ -67,6 +71,7 @@ fn role_number(role: Role) -> u64
     }
 }
 
+// The role that a bit stands for.
 fn role_of(n: u64) -> Role
     ensures { λ r. ⌜ r ≡ roleOf n ⌝ }
 {
@@ -83,6 +88,7 @@ fn word_of(l: Link) -> u64
     state_number(state) + 8 * role_number(role) + 16 * bit(mode) + 32 * l.retries as u64
 }
 
+// The link that a word holds; any word holds one.
 fn link_of(w: u64) -> Link
     ensures { λ r. ⌜ r ≡ linkOf w ⌝ }
 {
@@ -104,6 +110,7 @@ fn settings_word(s: Settings) -> u64
     s.config as u64 + 4 * bit(calibrate) + 8 * s.retry as u64 + 2048 * s.period as u64
 }
 
+// The settings that three words hold; any words hold some.
 fn settings_of(w: u64, tx: u64, rx: u64) -> Settings
     ensures { λ r. ⌜ r ≡ settingsOf w tx rx ⌝ }
 {
@@ -117,6 +124,7 @@ fn settings_of(w: u64, tx: u64, rx: u64) -> Settings
     }
 }
 
+// A port is 1 to 18.
 fn is_port(port: u8) -> bool
     ensures { λ r. ⌜ r ≡ IsPort port ⌝ }
 {
