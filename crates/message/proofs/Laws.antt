@@ -50,7 +50,7 @@ pub size-most : (kind : ℕ) → fixedSize kind ≤ 64
 unfolding fixedSize
 size-most kind = most-by (eqb kind 0x0) (eqb kind 0x1) (eqb kind 0x8) (eqb kind 0x9) (eqb kind 0xB) (eqb kind 0xC)
 
-no-refusal : (x : Refusal) → Refused x ≡ Done → ⊥
+pub no-refusal : (x : Refusal) → Refused x ≡ Done → ⊥
 no-refusal x e = let z : _≡_ {A = ℕ} 0 1 = cc in omega arith
 
 -- all the checks are passed
