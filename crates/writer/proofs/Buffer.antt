@@ -2,7 +2,7 @@
 -- behind the other are the message.
 use Prim.Native.Nat.{ℕ, _+_, _≤_, _<_}
 use mathlib.Core.Path.{_≡_, refl, sym, ap, _∙_}
-use mathlib.Core.List.{List, [], _∷_, _++_, append-assoc}
+use mathlib.Core.List.{List, [], _∷_, _++_, append-assoc, append-nil}
 use native.Mathlib.Omega.{arith}
 use native.Mathlib.Nat.{add-assoc}
 use lib.ListN.{length, take, drop, length-append}
@@ -91,3 +91,20 @@ assembled m t d {n} {o} {p} en eo ep eq =
     let eh : o ≡ over d 0 H = eo ∙ (λ i. over d 0 (headerOctets (m .header) b (en i + length t) [])) in
     put-two d 0 (omega arith) (H ++ B) t refl refl (put-two d 0 (omega arith) H B refl refl eh ep) (eq ∙ (λ i. over p ((en ∙ sym f) i) t))
     ∙ (λ i. headerOctets (m .header) b l (e i))
+
+-- the message without what stands behind it
+pub append-rest : (m : Message) (tail rest : List ℕ) → messageOctets m tail [] ++ rest ≡ messageOctets m tail rest
+unfolding messageOctets leadOctets identityOctets closeOctets
+append-rest m tail rest =
+    let b = m .body in
+    let e : bodyOctets b (tail ++ []) ++ rest ≡ bodyOctets b (tail ++ rest) =
+    ap (λ (l : List ℕ). l ++ rest) (sym (body-append b (tail ++ [])))
+    ∙ append-assoc (bodyOctets b []) (tail ++ []) rest
+    ∙ ap (λ (l : List ℕ). bodyOctets b [] ++ l) (ap (λ (l : List ℕ). l ++ rest) (append-nil tail))
+    ∙ body-append b (tail ++ rest) in
+    λ i. headerOctets (m .header) b (sizeOf b + length tail) (e i)
+
+-- how many octets a message has
+pub message-length : (m : Message) (tail : List ℕ) → length (messageOctets m tail []) ≡ sizeOf (m .body) + length tail
+unfolding messageOctets leadOctets identityOctets closeOctets
+message-length m tail = omega (arith, body-length (m .body) (tail ++ []), length-append tail [])

@@ -1,0 +1,5 @@
+pub mod Spread
+pub mod Back
+pub mod Written
+pub mod ReadBack
+pub mod WriteBack
