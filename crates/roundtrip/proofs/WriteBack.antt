@@ -120,58 +120,70 @@ module _ (s : List ℕ) (o : Octets s) where
   unfolding bodyOf fixedSize announceOf
   told magic c (sync k) =
       let b = body.Sync (stampOf s) in
-      let h : 44 ≤ length s = rw k at (le-trans (c .least) (c .lent)) in
-      (b, record {
-        body = rw k;
-        kind = sym k;
-        fits = stamp-fits s o (rw k at (c .stamp));
-        clear = plain b 44 (rw k) (sym k) refl h (λ rest. ap (spread 34 s 0) (stamp-octets s o rest));
-      })
+      let h : 44 ≤ length s = rw k at (le-trans (c .least) (c .lent)) in (
+        b,
+        record {
+          body = rw k;
+          kind = sym k;
+          fits = stamp-fits s o (rw k at (c .stamp));
+          clear = plain b 44 (rw k) (sym k) refl h (λ rest. ap (spread 34 s 0) (stamp-octets s o rest));
+        },
+      )
   told magic c (delay-req k) =
       let b = body.DelayReq (stampOf s) in
-      let h : 44 ≤ length s = rw k at (le-trans (c .least) (c .lent)) in
-      (b, record {
-        body = rw k;
-        kind = sym k;
-        fits = stamp-fits s o (rw k at (c .stamp));
-        clear = plain b 44 (rw k) (sym k) refl h (λ rest. ap (spread 34 s 0) (stamp-octets s o rest));
-      })
+      let h : 44 ≤ length s = rw k at (le-trans (c .least) (c .lent)) in (
+        b,
+        record {
+          body = rw k;
+          kind = sym k;
+          fits = stamp-fits s o (rw k at (c .stamp));
+          clear = plain b 44 (rw k) (sym k) refl h (λ rest. ap (spread 34 s 0) (stamp-octets s o rest));
+        },
+      )
   told magic c (follow-up k) =
       let b = body.FollowUp (stampOf s) in
-      let h : 44 ≤ length s = rw k at (le-trans (c .least) (c .lent)) in
-      (b, record {
-        body = rw k;
-        kind = sym k;
-        fits = stamp-fits s o (rw k at (c .stamp));
-        clear = plain b 44 (rw k) (sym k) refl h (λ rest. ap (spread 34 s 0) (stamp-octets s o rest));
-      })
+      let h : 44 ≤ length s = rw k at (le-trans (c .least) (c .lent)) in (
+        b,
+        record {
+          body = rw k;
+          kind = sym k;
+          fits = stamp-fits s o (rw k at (c .stamp));
+          clear = plain b 44 (rw k) (sym k) refl h (λ rest. ap (spread 34 s 0) (stamp-octets s o rest));
+        },
+      )
   told magic c (delay-resp k) =
       let b = body.DelayResp (record { receive = stampOf s; requester = identityAt s 44 }) in
-      let h : 54 ≤ length s = rw k at (le-trans (c .least) (c .lent)) in
-      (b, record {
-        body = rw k;
-        kind = sym k;
-        fits = stamp-fits s o (rw k at (c .stamp));
-        clear = plain b 54 (rw k) (sym k) refl h (λ rest. ap (spread 34 s 0) (stamp-octets s o (identityOctets (identityAt s 44) rest) ∙ ap (spread 10 s 34) (identity-octets s o 44 rest)));
-      })
+      let h : 54 ≤ length s = rw k at (le-trans (c .least) (c .lent)) in (
+        b,
+        record {
+          body = rw k;
+          kind = sym k;
+          fits = stamp-fits s o (rw k at (c .stamp));
+          clear = plain b 54 (rw k) (sym k) refl h (λ rest. ap (spread 34 s 0) (stamp-octets s o (identityOctets (identityAt s 44) rest) ∙ ap (spread 10 s 34) (identity-octets s o 44 rest)));
+        },
+      )
   told magic c (announce k) =
       let b = body.Announce (announceOf s) in
-      let h : 64 ≤ length s = rw k at (le-trans (c .least) (c .lent)) in
-      (b, record {
-        body = rw k;
-        kind = sym k;
-        fits = stamp-fits s o (rw k at (c .stamp));
-        clear = marked h k;
-      })
+      let h : 64 ≤ length s = rw k at (le-trans (c .least) (c .lent)) in (
+        b,
+        record {
+          body = rw k;
+          kind = sym k;
+          fits = stamp-fits s o (rw k at (c .stamp));
+          clear = marked h k;
+        },
+      )
   told magic c (signaling k) =
       let b = body.Signaling (identityAt s 34) in
-      let h : 44 ≤ length s = rw k at (le-trans (c .least) (c .lent)) in
-      (b, record {
-        body = rw k;
-        kind = sym k;
-        fits = refl;
-        clear = plain b 44 (rw k) (sym k) refl h (λ rest. ap (spread 34 s 0) (identity-octets s o 34 rest));
-      })
+      let h : 44 ≤ length s = rw k at (le-trans (c .least) (c .lent)) in (
+        b,
+        record {
+          body = rw k;
+          kind = sym k;
+          fits = refl;
+          clear = plain b 44 (rw k) (sym k) refl h (λ rest. ap (spread 34 s 0) (identity-octets s o 34 rest));
+        },
+      )
 
 module _ (magic : ℕ) (s : List ℕ) (o : Octets s) (e : checkOf magic s ≡ Done) where
   abbrev t : List ℕ

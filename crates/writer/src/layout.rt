@@ -17,6 +17,11 @@ use message::fields::SIGNALING;
 use message::fields::SYNC;
 use message::fields::Timestamp;
 
+const VERSION: u8 = 2;
+
+// What stands in each octet of a reserved field.
+const RESERVED: u8 = 0;
+
 // The type number of a message.
 pub fn kind_of(b: Body) -> u8
     ensures { λ r. ⌜ r ≡ kindOf b ⌝ }
@@ -71,11 +76,11 @@ fn lead_octets(h: Header, kind: u8, size: u16) -> [u8; 20]
     let c = octets::eight(octets::bits64(h.correction));
     [
         h.transport * 16 + kind,
-        2,
+        VERSION,
         l[0],
         l[1],
         h.domain,
-        0,
+        RESERVED,
         f[0],
         f[1],
         c[0],
@@ -86,10 +91,10 @@ fn lead_octets(h: Header, kind: u8, size: u16) -> [u8; 20]
         c[5],
         c[6],
         c[7],
-        0,
-        0,
-        0,
-        0,
+        RESERVED,
+        RESERVED,
+        RESERVED,
+        RESERVED,
     ]
 }
 
@@ -113,7 +118,7 @@ fn announce_octets(a: Announce) -> [u8; 20]
     [
         u[0],
         u[1],
-        0,
+        RESERVED,
         a.priority1,
         a.class,
         a.accuracy,
