@@ -1,4 +1,3 @@
-pub mod Spread
 pub mod Back
 pub mod Written
 pub mod ReadBack

@@ -28,7 +28,7 @@ use Rattle.writer.specs.Layout.{kindOf, controlOf, sizeOf, identityOctets, stam
 use Rattle.writer.specs.Writing.{stampFits, bodyFits, writeCheck, writeOf, bufferOf}
 use Rattle.writer.specs.declared.writing.Written.the-variants as written
 use Rattle.roundtrip.specs.RoundTrip.{clearedHeader, cleared}
-use Rattle.roundtrip.proofs.Spread.{spread, octets-back, spread-all}
+use Rattle.writer.proofs.Spread.{spread, octets-back, spread-all}
 use Rattle.writer.proofs.Buffer.{append-rest, message-length}
 
 module _ (s : List ℕ) (o : Octets s) where
