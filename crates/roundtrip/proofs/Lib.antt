@@ -2,3 +2,5 @@ pub mod Back
 pub mod Written
 pub mod ReadBack
 pub mod WriteBack
+pub mod OneTlv
+pub mod WrBack

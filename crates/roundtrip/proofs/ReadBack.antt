@@ -82,23 +82,30 @@ pub record ReadAs (magic : ℕ) (s : List ℕ) (m : Message) (tail : List ℕ) :
   pub message : readOf magic s ≡ Whole m
   pub tail-is : tailIn magic s ≡ tail
 
+-- an answer that counts octets comes of checks that were passed
+pub gave : (x : Outcome) {k l : ℕ} → by x written.Refused (written.Octets k) ≡ written.Octets l → (x ≡ Done) × (k ≡ l)
+gave Done e = (refl, cc)
+gave (Refused y) e = absurd (let z : _≡_ {A = ℕ} 0 1 = cc in omega arith)
+
 module _ (magic : ℕ) (m : Message) (tail : List ℕ) (r : MessageRange m) where
-  -- whatever stands behind it
+  -- reading accepts what writing allows, whatever stands behind it
+  pub accepted-back : (room : ℕ) (rest : List ℕ) → writeCheck magic m tail room ≡ Done → checkOf magic (messageOctets m tail rest) ≡ Done
+  accepted-back room rest e =
+      let a = allowed magic m tail room e in
+      let f = split (secondsFit (m .body)) (lateStamp (m .body)) (sym (stamp-split (m .body)) ∙ a .stamp) in
+      written-check m tail rest r (a .long) magic ∙ rw (f .1, a .tlvs) (goes-on _ _ _ refl)
+
+  -- and reads it as it was
   pub read-back : (room : ℕ) (rest : List ℕ) → writeCheck magic m tail room ≡ Done → ReadAs magic (messageOctets m tail rest) m tail
   unfolding readOf tailIn
   read-back room rest e =
       let a = allowed magic m tail room e in
       let f = split (secondsFit (m .body)) (lateStamp (m .body)) (sym (stamp-split (m .body)) ∙ a .stamp) in
-      let c : checkOf magic (messageOctets m tail rest) ≡ Done =
-      written-check m tail rest r (a .long) magic ∙ rw (f .1, a .tlvs) (goes-on _ _ _ refl) in
+      let c = accepted-back room rest e in
       record {
         message = rw c (ap Whole (written-message m tail rest r (a .long) (f .0)));
         tail-is = rw c (written-tail m tail rest r (a .long));
       }
-
-  gave : (x : Outcome) {k l : ℕ} → by x written.Refused (written.Octets k) ≡ written.Octets l → (x ≡ Done) × (k ≡ l)
-  gave Done e = (refl, cc)
-  gave (Refused y) e = absurd (let z : _≡_ {A = ℕ} 0 1 = cc in omega arith)
 
   -- the buffer that writing leaves is read as the message, whole, or cut to the octets that writing counts
   pub buffer-back : (out : List ℕ) (k : ℕ) → writeOf magic m tail out ≡ written.Octets k

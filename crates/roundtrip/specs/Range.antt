@@ -1,8 +1,10 @@
 -- What the types of a message's fields say of their values: each fits the octets that it has, but for transportSpecific,
--- which has four bits, and seconds, which have 48.
+-- which has four bits, and seconds, which have 48. Of a link message too.
 use Prim.Native.Nat.{ℕ, _^_, _<_}
 use mir.Syntax.{w8, w16, w64}
 use mir.Val.{SFits}
+use Rattle.tlv.specs.declared.wr.LinkMessage.{LinkMessage}
+use Rattle.tlv.specs.declared.wr.LinkMessage.the-variants.{SlavePresent, Lock, Locked, Calibrate, Calibrated, ModeOn}
 use Rattle.message.specs.declared.fields.PortIdentity.{PortIdentity}
 use Rattle.message.specs.declared.fields.Timestamp.{Timestamp}
 use Rattle.message.specs.declared.fields.Header.{Header}
@@ -43,3 +45,11 @@ BodyRange (body.Signaling p) = IdentityRange p
 pub record MessageRange (m : Message) : Type 0 where
   pub header : HeaderRange (m .header)
   pub body : BodyRange (m .body)
+
+abbrev pub LinkRange : LinkMessage → Type 0
+LinkRange SlavePresent = Unit {0}
+LinkRange Lock = Unit {0}
+LinkRange Locked = Unit {0}
+LinkRange (Calibrate pattern retry period) = period < 256 ^ 4
+LinkRange (Calibrated tx rx) = (tx < 256 ^ 8) × (rx < 256 ^ 8)
+LinkRange ModeOn = Unit {0}
