@@ -4,3 +4,4 @@ pub mod ReadBack
 pub mod WriteBack
 pub mod OneTlv
 pub mod WrBack
+pub mod Edges

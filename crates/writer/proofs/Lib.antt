@@ -1,3 +1,4 @@
 pub mod Buffer
 pub mod Allowed
 pub mod Spread
+pub mod Determined
