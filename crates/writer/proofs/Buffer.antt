@@ -4,15 +4,15 @@ use Prim.Native.Nat.{ℕ, _+_, _≤_, _<_}
 use mathlib.Core.Path.{_≡_, refl, sym, ap, _∙_}
 use mathlib.Core.List.{List, [], _∷_, _++_, append-assoc, append-nil}
 use native.Mathlib.Omega.{arith}
-use native.Mathlib.Nat.{add-assoc}
-use lib.ListN.{length, take, drop, length-append}
+use native.Mathlib.Nat.{add-assoc, add-zero}
+use lib.ListN.{length, take, drop, length-append, take-append-drop}
 use lib.Seq.{take-at, drop-at, drop-drop, length-take-le}
 use Rattle.message.specs.Fields.{fixedSize}
 use Rattle.message.specs.declared.fields.Header.{Header}
 use Rattle.message.specs.declared.fields.Body.{Body}
 use Rattle.message.specs.declared.fields.Body.the-variants as body
 use Rattle.message.specs.declared.fields.Message.{Message}
-use Rattle.writer.specs.Layout.{kindOf, sizeOf, identityOctets, stampOctets, leadOctets, closeOctets, headerOctets, announceOctets, bodyOctets, messageOctets, over}
+use Rattle.writer.specs.Layout.{kindOf, sizeOf, identityOctets, stampOctets, leadOctets, closeOctets, headerOctets, announceOctets, firstOctets, bodyOctets, messageOctets, over}
 
 module _ (d : List ℕ) (at : ℕ) (h : at ≤ length d) where
   module _ (x y : List ℕ) where
@@ -29,11 +29,15 @@ module _ (d : List ℕ) (at : ℕ) (h : at ≤ length d) where
     join =
         rw (take-at (take at d ++ x) (drop (at + length x) d) (at + length x) front, behind, length-append x y, ← add-assoc, append-assoc (take at d) x y)
 
-  -- two parts, equal to X and Y, put one behind the other
-  pub put-two : {x y : List ℕ} (X Y : List ℕ) {o p : List ℕ} → x ≡ X → y ≡ Y
-      → o ≡ over d at x → p ≡ over o (at + length X) y → p ≡ over d at (X ++ Y)
-  put-two X Y ex ey eo ep =
-      ep ∙ (λ i. over (eo i) (at + length X) (ey i)) ∙ (λ i. over (over d at (ex i)) (at + length X) Y) ∙ join X Y
+  -- two parts, equal to X and Y, put one behind the other, the second at k
+  pub put-two : {x y : List ℕ} (X Y : List ℕ) {k : ℕ} {o p : List ℕ} → k ≡ at + length X → x ≡ X → y ≡ Y
+      → o ≡ over d at x → p ≡ over o k y → p ≡ over d at (X ++ Y)
+  put-two X Y ek ex ey eo ep =
+      ep ∙ (λ i. over (eo i) (ek i) (ey i)) ∙ (λ i. over (over d at (ex i)) (at + length X) Y) ∙ join X Y
+
+-- nothing put
+pub put-none : (d : List ℕ) (at : ℕ) → d ≡ over d at []
+put-none d at = sym (rw (append-nil, add-zero) (take-append-drop at d))
 
 -- the fixed part of every message is 44 octets or more
 pub least : (b : Body) → 44 ≤ sizeOf b
@@ -52,6 +56,25 @@ kind-below (body.FollowUp t) = omega arith
 kind-below (body.DelayResp r) = omega arith
 kind-below (body.Announce a) = omega arith
 kind-below (body.Signaling p) = omega arith
+
+-- ten octets come first
+pub first-length : (b : Body) → length (firstOctets b []) ≡ 10
+unfolding stampOctets identityOctets
+first-length (body.Sync t) = refl
+first-length (body.DelayReq t) = refl
+first-length (body.FollowUp t) = refl
+first-length (body.DelayResp r) = refl
+first-length (body.Announce a) = refl
+first-length (body.Signaling p) = refl
+
+pub first-append : (b : Body) (rest : List ℕ) → firstOctets b [] ++ rest ≡ firstOctets b rest
+unfolding stampOctets identityOctets
+first-append (body.Sync t) rest = refl
+first-append (body.DelayReq t) rest = refl
+first-append (body.FollowUp t) rest = refl
+first-append (body.DelayResp r) rest = refl
+first-append (body.Announce a) rest = refl
+first-append (body.Signaling p) rest = refl
 
 -- what stands behind the header fills the fixed part
 pub body-length : (b : Body) (rest : List ℕ) → 34 + length (bodyOctets b rest) ≡ sizeOf b + length rest
@@ -79,7 +102,7 @@ pub assembled : (m : Message) (t d : List ℕ) {n : ℕ} {o p q : List ℕ} → 
     → q ≡ over p n t
     → q ≡ messageOctets m t (drop (sizeOf (m .body) + length t) d)
 unfolding leadOctets identityOctets closeOctets messageOctets
-assembled m t d {n} {o} {p} en eo ep eq =
+assembled m t d {n} {o} en eo ep eq =
     let b = m .body in
     let l = sizeOf b + length t in
     let H = headerOctets (m .header) b l [] in
@@ -89,7 +112,7 @@ assembled m t d {n} {o} {p} en eo ep eq =
     let e : (B ++ t) ++ drop (0 + length ((H ++ B) ++ t)) d ≡ bodyOctets b (t ++ drop l d) =
     rw (k, append-assoc B t (drop l d)) (body-append b (t ++ drop l d)) in
     let eh : o ≡ over d 0 H = eo ∙ (λ i. over d 0 (headerOctets (m .header) b (en i + length t) [])) in
-    put-two d 0 (omega arith) (H ++ B) t refl refl (put-two d 0 (omega arith) H B refl refl eh ep) (eq ∙ (λ i. over p ((en ∙ sym f) i) t))
+    put-two d 0 (omega arith) (H ++ B) t (en ∙ sym f) refl refl (put-two d 0 (omega arith) H B refl refl refl eh ep) eq
     ∙ (λ i. headerOctets (m .header) b l (e i))
 
 -- the message without what stands behind it

@@ -78,15 +78,27 @@ announceOctets a rest =
     (a .timesource
     ∷ rest))))
 
--- "At 34 stands a timestamp .., in Signaling the ten-octet targetPortIdentity. Delay_Resp has requestingPortIdentity at
--- 44."
+-- octets 34 to 43: "At 34 stands a timestamp .., in Signaling the ten-octet targetPortIdentity."
+abbrev pub firstOctets : Body → List ℕ → List ℕ
+firstOctets (body.Sync t) rest = stampOctets t rest
+firstOctets (body.DelayReq t) rest = stampOctets t rest
+firstOctets (body.FollowUp t) rest = stampOctets t rest
+firstOctets (body.DelayResp r) rest = stampOctets (r .receive) rest
+firstOctets (body.Announce a) rest = stampOctets (a .origin) rest
+firstOctets (body.Signaling p) rest = identityOctets p rest
+
+-- from octet 44 on: "Delay_Resp has requestingPortIdentity at 44. Announce: .."
+abbrev pub moreOctets : Body → List ℕ → List ℕ
+moreOctets (body.Sync t) rest = rest
+moreOctets (body.DelayReq t) rest = rest
+moreOctets (body.FollowUp t) rest = rest
+moreOctets (body.DelayResp r) rest = identityOctets (r .requester) rest
+moreOctets (body.Announce a) rest = announceOctets a rest
+moreOctets (body.Signaling p) rest = rest
+
+-- what stands behind the header
 abbrev pub bodyOctets : Body → List ℕ → List ℕ
-bodyOctets (body.Sync t) rest = stampOctets t rest
-bodyOctets (body.DelayReq t) rest = stampOctets t rest
-bodyOctets (body.FollowUp t) rest = stampOctets t rest
-bodyOctets (body.DelayResp r) rest = stampOctets (r .receive) (identityOctets (r .requester) rest)
-bodyOctets (body.Announce a) rest = stampOctets (a .origin) (announceOctets a rest)
-bodyOctets (body.Signaling p) rest = identityOctets p rest
+bodyOctets b rest = firstOctets b (moreOctets b rest)
 
 -- "fixed sizes"
 abbrev pub sizeOf : Body → ℕ

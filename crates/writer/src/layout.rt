@@ -4,7 +4,7 @@ ghost use mathlib.Core.List.{[]};
 ghost use Prim.Native.Nat.{_+_, _≤_, _<_};
 ghost use lib.ListN.{length};
 ghost use Rattle.message.specs.Fields.{fixedSize};
-ghost use Rattle.writer.specs.Layout.{kindOf, controlOf, sizeOf, identityOctets, stampOctets, leadOctets, closeOctets, announceOctets, headerOctets, bodyOctets, over};
+ghost use Rattle.writer.specs.Layout.{kindOf, controlOf, sizeOf, identityOctets, stampOctets, leadOctets, closeOctets, announceOctets, headerOctets, firstOctets, moreOctets, bodyOctets, over};
 use message::fields::ANNOUNCE;
 use message::fields::Announce;
 use message::fields::Body;
@@ -164,23 +164,41 @@ pub fn put_header(out: &mut [u8], h: Header, b: Body, size: u16)
     copy_in(out, 30, &close);
 }
 
+// Octets 34 to 43: the timestamp, in a Signaling the target.
+fn first_octets(b: Body) -> [u8; 10]
+    ensures { λ r. ⌜ r ≡ firstOctets b [] ⌝ }
+{
+    match b {
+        Body::Sync(t) => stamp_octets(t),
+        Body::DelayReq(t) => stamp_octets(t),
+        Body::FollowUp(t) => stamp_octets(t),
+        Body::DelayResp(r) => stamp_octets(r.receive),
+        Body::Announce(a) => stamp_octets(a.origin),
+        Body::Signaling(p) => identity_octets(p),
+    }
+}
+
+// What a Delay_Resp and an Announce have from octet 44 on goes into the buffer.
+fn put_more(out: &mut [u8], b: Body)
+    requires { ⌜ sizeOf b ≤ length (now out) ⌝ }
+    ensures { λ _. ⌜ now (out .exit) ≡ over (now (out .entry)) 44 (moreOctets b []) ⌝ }
+{
+    match b {
+        Body::Sync(_) => {}
+        Body::DelayReq(_) => {}
+        Body::FollowUp(_) => {}
+        Body::DelayResp(r) => copy_in(out, 44, &identity_octets(r.requester)),
+        Body::Announce(a) => copy_in(out, 44, &announce_octets(a)),
+        Body::Signaling(_) => {}
+    }
+}
+
 // What stands behind the header goes into the buffer.
 pub fn put_body(out: &mut [u8], b: Body)
     requires { ⌜ sizeOf b ≤ length (now out) ⌝ }
     ensures { λ _. ⌜ now (out .exit) ≡ over (now (out .entry)) 34 (bodyOctets b []) ⌝ }
 {
-    match b {
-        Body::Sync(t) => copy_in(out, 34, &stamp_octets(t)),
-        Body::DelayReq(t) => copy_in(out, 34, &stamp_octets(t)),
-        Body::FollowUp(t) => copy_in(out, 34, &stamp_octets(t)),
-        Body::DelayResp(r) => {
-            copy_in(out, 34, &stamp_octets(r.receive));
-            copy_in(out, 44, &identity_octets(r.requester));
-        }
-        Body::Announce(a) => {
-            copy_in(out, 34, &stamp_octets(a.origin));
-            copy_in(out, 44, &announce_octets(a));
-        }
-        Body::Signaling(p) => copy_in(out, 34, &identity_octets(p)),
-    }
+    let first = first_octets(b);
+    copy_in(out, 34, &first);
+    put_more(out, b);
 }

@@ -64,8 +64,8 @@ returns c =
     let C = closeOctets h (controlOf b) [] in
     let el : ld .lead-octets .result ≡ L = ld .lead-octets .ensures ∙ ap (λ (k : ℕ). leadOctets h k (a .size) []) (kd .kind-of .ensures) in
     let ec : cl .close-octets .result ≡ C = cl .close-octets .ensures ∙ ap (λ (k : ℕ). closeOctets h k []) (ct .control-of .ensures) in
-    put-two (a .out .now) 0 (omega arith) (L ++ I) C refl ec
-    (put-two (a .out .now) 0 (omega arith) L I el (id .identity-octets .ensures) (k1 .copy-in .ensures) (k2 .copy-in2 .ensures))
+    put-two (a .out .now) 0 (omega arith) (L ++ I) C refl refl ec
+    (put-two (a .out .now) 0 (omega arith) L I refl el (id .identity-octets .ensures) (k1 .copy-in .ensures) (k2 .copy-in2 .ensures))
     (k3 .copy-in3 .ensures)
 
 pub put-header-spec : {M : Type 1} → statement M
