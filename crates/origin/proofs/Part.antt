@@ -7,7 +7,6 @@ use mathlib.Core.Bool.{Bool, true, false}
 use native.Mathlib.Omega.{arith}
 use lib.ListN.{length, take, drop, length-take, length-drop}
 use Rattle.refusal.specs.declared.Refusal.{Refusal}
-use Rattle.refusal.specs.declared.Outcome.{Outcome}
 use Rattle.refusal.specs.declared.Outcome.the-variants.{Done, Refused}
 use Rattle.origin.specs.Origin.{isTwoStep, originCheck, stampPart, originIn}
 use Rattle.origin.proofs.Laws.{sync-taken, follow-taken}

@@ -1,29 +1,27 @@
 -- What was written is read: the header, what stands behind it, and the tail.
-use Prim.Native.Nat.{ℕ, _+_, _*_, _-_, _/_, _%_, _^_, _<_, _≤_}
-use mathlib.Core.Path.{_≡_, refl, sym, ap, _∙_}
-use mathlib.Core.List.{List, [], _∷_, _++_}
-use mathlib.Core.Bool.{Bool, true, false, not}
+use Prim.Native.Nat.{ℕ, _+_, _*_, _/_, _^_, _<_}
+use mathlib.Core.Path.{_≡_, refl, ap, _∙_}
+use mathlib.Core.List.{List, []}
+use mathlib.Core.Bool.{true}
 use native.Mathlib.Omega.{arith}
 use borrow.Author.Tests.{ltb-true}
-use lib.ListN.{length, take, drop, getD, length-append}
-use lib.Seq.{take-append-seam}
-use lib.Dec.{ltb, leb}
+use lib.ListN.{drop}
+use lib.Dec.{ltb}
 use mir.Syntax.{w8, w16, w64}
-use mir.Val.{toZ, ofZ, SFits}
+use mir.Val.{toZ, ofZ}
 use mir.ValLaws.{toZ-ofZ, ofZ-fits}
-use Rattle.octets.specs.Be.{be, octetsOf}
+use Rattle.octets.specs.Be.{be}
 use Rattle.octets.proofs.Laws.{be-octets}
-use Rattle.message.specs.Fields.{typeOf, lengthOf, fixedSize, identityAt, stampOf, headerOf, announceOf, bodyOf, tailOf}
+use Rattle.message.specs.Fields.{typeOf, lengthOf, fixedSize, identityAt, stampOf, headerOf, announceOf, bodyOf}
 use Rattle.message.specs.declared.fields.PortIdentity.{PortIdentity}
 use Rattle.message.specs.declared.fields.Timestamp.{Timestamp}
 use Rattle.message.specs.declared.fields.Header.{Header}
 use Rattle.message.specs.declared.fields.Announce.{Announce}
 use Rattle.message.specs.declared.fields.Body.{Body}
 use Rattle.message.specs.declared.fields.Body.the-variants as body
-use Rattle.message.specs.declared.fields.Message.{Message}
-use Rattle.writer.specs.Layout.{kindOf, controlOf, sizeOf, identityOctets, stampOctets, leadOctets, closeOctets, announceOctets, headerOctets, bodyOctets, messageOctets}
-use Rattle.writer.proofs.Buffer.{kind-below, body-length}
-use Rattle.roundtrip.specs.Range.{IdentityRange, StampRange, HeaderRange, AnnounceRange, BodyRange, MessageRange}
+use Rattle.layout.specs.Layout.{kindOf, sizeOf, identityOctets, stampOctets, leadOctets, closeOctets, announceOctets, headerOctets, bodyOctets}
+use Rattle.layout.proofs.Buffer.{kind-below}
+use Rattle.roundtrip.specs.Range.{IdentityRange, StampRange, HeaderRange, AnnounceRange, BodyRange}
 use Rattle.roundtrip.specs.RoundTrip.{secondsFit}
 
 module _ (h : Header) (b : Body) (n : ℕ) where

@@ -3,7 +3,7 @@
 use Prim.Native.Nat.{ℕ, zero, suc}
 use mathlib.Core.Path.{_≡_, refl}
 use mathlib.Core.List.{List, [], _∷_}
-use lib.IntN.{pos, negsuc}
+use lib.IntN.{negsuc}
 use Rattle.refusal.specs.Choice.{refuse}
 use Rattle.refusal.specs.declared.Refusal.the-variants.{Field, Room}
 use Rattle.octets.specs.Be.{be}
@@ -11,11 +11,9 @@ use Rattle.tlv.specs.Walk.{nextOf, walkBy, walk}
 use Rattle.tlv.specs.Form.{HasForm, dataOctets, numbered, misfitAt}
 use Rattle.tlv.specs.Faults.{tailCheck}
 use Rattle.message.specs.Fields.{fixedSize}
-use Rattle.message.specs.declared.fields.Header.{Header}
-use Rattle.message.specs.declared.fields.Body.{Body}
 use Rattle.message.specs.declared.fields.Body.the-variants as body
 use Rattle.message.specs.declared.fields.Message.{Message}
-use Rattle.writer.specs.Layout.{identityOctets, stampOctets, leadOctets, closeOctets, messageOctets}
+use Rattle.layout.specs.Layout.{identityOctets, stampOctets, leadOctets, closeOctets, messageOctets}
 use Rattle.writer.specs.Writing.{stampFits, writeCheck, writeOf, bufferOf}
 use Rattle.writer.specs.declared.writing.Written.the-variants.{Octets, Refused}
 

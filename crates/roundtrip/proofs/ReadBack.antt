@@ -1,12 +1,11 @@
 -- The round trip, from a message to octets and back: writing refuses with 18 exactly when 01 says, and what it writes is
 -- read as the same message with the same tail, with or without padding behind.
-use Prim.Native.Nat.{ℕ, _+_, _<_, _≤_}
+use Prim.Native.Nat.{ℕ, _+_}
 use mathlib.Core.Path.{_≡_, refl, sym, ap, _∙_}
 use mathlib.Core.List.{List, []}
 use mathlib.Core.Bool.{Bool, true, false, not, _&&_}
-use mathlib.Core.Logic.{_⊎_, inl, inr}
 use native.Mathlib.Omega.{arith}
-use borrow.Author.Tests.{lt-ltb, le-ltb, leb-true, leb-false, le-leb}
+use borrow.Author.Tests.{lt-ltb, le-ltb, leb-true, leb-false}
 use lib.Dec.{ltb, leb}
 use lib.ListN.{length, take, drop}
 use lib.Seq.{take-at}
@@ -22,11 +21,11 @@ use Rattle.message.specs.declared.fields.Body.{Body}
 use Rattle.message.specs.declared.fields.Body.the-variants as body
 use Rattle.message.specs.declared.fields.Message.{Message}
 use Rattle.message.specs.declared.reading.Reading.the-variants.{Whole}
-use Rattle.writer.specs.Layout.{sizeOf, messageOctets}
-use Rattle.writer.specs.Writing.{stampFits, bodyFits, isDone, writeCheck, writeOf, bufferOf}
+use Rattle.layout.specs.Layout.{sizeOf, messageOctets}
+use Rattle.writer.specs.Writing.{stampFits, bodyFits, writeCheck, writeOf, bufferOf}
 use Rattle.writer.specs.declared.writing.Written.the-variants as written
-use Rattle.writer.proofs.Allowed.{Allowed, allowed}
-use Rattle.writer.proofs.Buffer.{append-rest}
+use Rattle.writer.proofs.Allowed.{allowed}
+use Rattle.layout.proofs.Buffer.{append-rest}
 use Rattle.roundtrip.specs.Range.{MessageRange}
 use Rattle.roundtrip.specs.RoundTrip.{secondsFit, unfit}
 use Rattle.roundtrip.proofs.Written.{lateStamp, written-check, written-message, written-tail, written-octets}

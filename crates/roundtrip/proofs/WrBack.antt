@@ -1,20 +1,20 @@
 -- White Rabbit's messages that were built are read: the suffix with its four bits of wrFlags, a link message with what it
 -- carries. A Signaling with a link message is refused for transportSpecific or for want of room, and for nothing else.
 use Prim.Native.Nat.{ℕ, _+_, _%_, _^_, _<_, _≤_}
-use mathlib.Core.Path.{_≡_, refl, sym, ap, _∙_}
-use mathlib.Core.List.{List, [], _∷_}
-use mathlib.Core.Bool.{Bool, true, false, not}
+use mathlib.Core.Path.{_≡_, refl, ap, _∙_}
+use mathlib.Core.List.{List, []}
+use mathlib.Core.Bool.{true, false, not}
 use native.Mathlib.Omega.{arith}
 use borrow.Author.Tests.{lt-ltb, le-ltb}
 use lib.Dec.{ltb}
 use lib.ListN.{length, drop, getD}
-use Rattle.refusal.specs.Choice.{pick, refuse}
+use Rattle.refusal.specs.Choice.{refuse}
 use Rattle.refusal.proofs.Choice.{goes-on}
 use Rattle.refusal.specs.declared.Refusal.the-variants.{Field, Room}
 use Rattle.refusal.specs.declared.Outcome.the-variants.{Done, Refused}
 use Rattle.octets.specs.Be.{be, octetsOf}
 use Rattle.octets.proofs.Laws.{be-octets}
-use Rattle.tlv.specs.Form.{numberAt, dataOctets, isMisfit, isSuffix, isLink, suffixAt, linkAt}
+use Rattle.tlv.specs.Form.{numberAt, dataOctets, isMisfit, isLink}
 use Rattle.tlv.specs.Faults.{tailCheck}
 use Rattle.tlv.specs.Wr.{flagsAt, suffixIn, linkMessageAt, linkIn}
 use Rattle.tlv.specs.declared.form.Numbered.the-variants.{Number}
@@ -22,7 +22,7 @@ use Rattle.tlv.specs.declared.wr.LinkMessage.{LinkMessage}
 use Rattle.tlv.specs.declared.wr.LinkMessage.the-variants.{SlavePresent, Lock, Locked, Calibrate, Calibrated, ModeOn}
 use Rattle.tlv.specs.declared.wr.Suffix.the-variants as suffix
 use Rattle.tlv.specs.declared.wr.LinkFound.the-variants as found
-use Rattle.message.specs.Fields.{typeOf, fixedSize}
+use Rattle.message.specs.Fields.{fixedSize}
 use Rattle.message.specs.Parts.{suffixOf, linkOf}
 use Rattle.message.specs.declared.parts.SuffixRead.the-variants as flags
 use Rattle.message.specs.declared.parts.LinkRead.the-variants as link
@@ -31,7 +31,7 @@ use Rattle.message.specs.declared.fields.Header.{Header}
 use Rattle.message.specs.declared.fields.Announce.{Announce}
 use Rattle.message.specs.declared.fields.Body.the-variants as body
 use Rattle.message.specs.declared.fields.Message.{Message}
-use Rattle.writer.specs.Layout.{sizeOf, messageOctets}
+use Rattle.layout.specs.Layout.{sizeOf}
 use Rattle.writer.specs.Writing.{writeCheck, writeOf, bufferOf}
 use Rattle.writer.specs.declared.writing.Written.the-variants as written
 use Rattle.writer.proofs.Allowed.{allowed}

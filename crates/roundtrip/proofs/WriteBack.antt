@@ -1,9 +1,9 @@
 -- The round trip, from octets to a message and back: what reading accepts, writing accepts too, and it leaves the octets
 -- that were read, but for the reserved fields and controlField.
-use Prim.Native.Nat.{ℕ, zero, suc, _+_, _*_, _-_, _/_, _%_, _^_, _<_, _≤_}
+use Prim.Native.Nat.{ℕ, _+_, _*_, _-_, _/_, _^_, _≤_}
 use mathlib.Core.Path.{_≡_, refl, sym, ap, _∙_}
 use mathlib.Core.List.{List, [], _∷_, _++_}
-use mathlib.Core.Bool.{Bool, true, false, not, _&&_}
+use mathlib.Core.Bool.{Bool, true, false}
 use native.Mathlib.Omega.{arith}
 use native.Mathlib.Nat.{le-trans}
 use borrow.Author.Tests.{lt-ltb, le-ltb, eqb-true, leb-false}
@@ -11,7 +11,7 @@ use lib.Dec.{eqb, ltb, leb}
 use lib.ListN.{length, take, drop, getD, set, take-append-drop}
 use lib.Seq.{drop-drop, take-at}
 use mir.Syntax.{w8, w16, w64}
-use mir.Val.{toZ, ofZ, Fits}
+use mir.Val.{toZ, ofZ}
 use mir.ValLaws.{ofZ-toZ}
 use Rattle.refusal.specs.Choice.{pick, refuse}
 use Rattle.refusal.proofs.Choice.{goes-on}
@@ -20,16 +20,16 @@ use Rattle.refusal.specs.declared.Outcome.the-variants.{Done, Refused}
 use Rattle.octets.specs.Be.{be, octetsOf}
 use Rattle.octets.proofs.Laws.{Octets, be-bound}
 use Rattle.message.specs.Fields.{typeOf, lengthOf, fixedSize, identityAt, stampOf, headerOf, announceOf, bodyOf, tailOf, messageOf}
-use Rattle.message.specs.Reading.{badStamp, checkOf}
+use Rattle.message.specs.Reading.{checkOf}
 use Rattle.message.specs.declared.fields.Body.{Body}
 use Rattle.message.specs.declared.fields.Body.the-variants as body
-use Rattle.message.proofs.Laws.{Accepted, accepted, bounded, tail-length, size-least}
-use Rattle.writer.specs.Layout.{kindOf, controlOf, sizeOf, identityOctets, stampOctets, leadOctets, closeOctets, announceOctets, headerOctets, bodyOctets, messageOctets}
+use Rattle.message.proofs.Laws.{Accepted, accepted, bounded, tail-length}
+use Rattle.layout.specs.Layout.{kindOf, controlOf, sizeOf, identityOctets, stampOctets, leadOctets, closeOctets, announceOctets, headerOctets, bodyOctets, messageOctets}
 use Rattle.writer.specs.Writing.{stampFits, bodyFits, writeCheck, writeOf, bufferOf}
 use Rattle.writer.specs.declared.writing.Written.the-variants as written
 use Rattle.roundtrip.specs.RoundTrip.{clearedHeader, cleared}
-use Rattle.writer.proofs.Spread.{spread, octets-back, spread-all}
-use Rattle.writer.proofs.Buffer.{append-rest, message-length}
+use Rattle.layout.proofs.Spread.{spread, octets-back, spread-all}
+use Rattle.layout.proofs.Buffer.{append-rest, message-length}
 
 module _ (s : List ℕ) (o : Octets s) where
   identity-octets : (at : ℕ) (rest : List ℕ) → identityOctets (identityAt s at) rest ≡ spread 8 s at (spread 2 s (at + 8) rest)

@@ -1,32 +1,30 @@
 -- Reading what was written: the checks find what writing finds, and where writing allows a message it is read again,
 -- whatever stands behind it.
-use Prim.Native.Nat.{ℕ, _+_, _-_, _%_, _^_, _<_, _≤_}
-use mathlib.Core.Path.{_≡_, refl, sym, ap, _∙_}
-use mathlib.Core.List.{List, [], _∷_, _++_}
-use mathlib.Core.Bool.{Bool, true, false, not, _&&_}
+use Prim.Native.Nat.{ℕ, _+_, _-_, _≤_}
+use mathlib.Core.Path.{_≡_, refl}
+use mathlib.Core.List.{List, [], _++_}
+use mathlib.Core.Bool.{Bool, true, false}
 use native.Mathlib.Omega.{arith}
-use native.Mathlib.Nat.{add-sub-cancel-left}
-use borrow.Author.Tests.{lt-ltb, le-ltb, ltb-true, ltb-false, eq-eqb, ne-eqb, lt-leb, le-leb}
-use lib.Dec.{eqb, ltb, leb}
-use lib.ListN.{length, take, drop, length-append}
+use borrow.Author.Tests.{le-ltb, ne-eqb}
+use lib.Dec.{leb}
+use lib.ListN.{length, drop, length-append}
 use lib.Seq.{take-append-seam}
 use Rattle.refusal.specs.Choice.{refuse}
 use Rattle.refusal.proofs.Choice.{goes-on}
 use Rattle.refusal.specs.declared.Refusal.the-variants.{Stamp}
-use Rattle.refusal.specs.declared.Outcome.{Outcome}
-use Rattle.refusal.specs.declared.Outcome.the-variants.{Done, Refused}
+use Rattle.refusal.specs.declared.Outcome.the-variants.{Refused}
 use Rattle.octets.specs.Be.{be}
 use Rattle.octets.proofs.Laws.{be-octets}
 use Rattle.tlv.specs.Faults.{tailCheck}
-use Rattle.message.specs.Fields.{typeOf, versionOf, lengthOf, fixedSize, stampOf, tailOf, headerOf, bodyOf, messageOf}
+use Rattle.message.specs.Fields.{typeOf, versionOf, lengthOf, tailOf, messageOf}
 use Rattle.message.specs.Reading.{badStamp, checkOf}
 use Rattle.message.specs.declared.fields.Timestamp.{Timestamp}
 use Rattle.message.specs.declared.fields.Header.{Header}
 use Rattle.message.specs.declared.fields.Body.{Body}
 use Rattle.message.specs.declared.fields.Body.the-variants as body
 use Rattle.message.specs.declared.fields.Message.{Message}
-use Rattle.writer.specs.Layout.{kindOf, sizeOf, leadOctets, identityOctets, closeOctets, stampOctets, announceOctets, headerOctets, bodyOctets, messageOctets}
-use Rattle.writer.proofs.Buffer.{least, body-length}
+use Rattle.layout.specs.Layout.{kindOf, sizeOf, leadOctets, identityOctets, closeOctets, stampOctets, announceOctets, headerOctets, bodyOctets, messageOctets}
+use Rattle.layout.proofs.Buffer.{least, body-length}
 use Rattle.roundtrip.specs.Range.{StampRange, BodyRange, MessageRange}
 use Rattle.roundtrip.specs.RoundTrip.{secondsFit}
 use Rattle.roundtrip.proofs.Back.{type-back, length-back, header-back, body-back, drop-fixed}

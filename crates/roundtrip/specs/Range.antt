@@ -1,6 +1,6 @@
 -- What the types of a message's fields say of their values: each fits the octets that it has, but for transportSpecific,
 -- which has four bits, and seconds, which have 48. Of a link message too.
-use Prim.Native.Nat.{ℕ, _^_, _<_}
+use Prim.Native.Nat.{_^_, _<_}
 use mir.Syntax.{w8, w16, w64}
 use mir.Val.{SFits}
 use Rattle.tlv.specs.declared.wr.LinkMessage.{LinkMessage}

@@ -2,7 +2,7 @@
 -- reserved fields and controlField as they are written.
 use Prim.Native.Nat.{ℕ, _+_, _^_}
 use mathlib.Core.List.{List, []}
-use mathlib.Core.Bool.{Bool, true, false, not, _&&_}
+use mathlib.Core.Bool.{Bool, true, not, _&&_}
 use lib.Dec.{eqb, ltb, leb}
 use lib.ListN.{length, set}
 use Rattle.refusal.specs.Choice.{pick}
@@ -11,7 +11,7 @@ use Rattle.message.specs.Reading.{checkOf}
 use Rattle.message.specs.declared.fields.Body.{Body}
 use Rattle.message.specs.declared.fields.Body.the-variants as body
 use Rattle.message.specs.declared.fields.Message.{Message}
-use Rattle.writer.specs.Layout.{controlOf, sizeOf, messageOctets}
+use Rattle.layout.specs.Layout.{controlOf, sizeOf, messageOctets}
 use Rattle.writer.specs.Writing.{isDone}
 
 -- "48-bit seconds"

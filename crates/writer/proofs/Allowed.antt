@@ -12,7 +12,7 @@ use Rattle.refusal.specs.declared.Outcome.the-variants.{Done, Refused}
 use Rattle.tlv.specs.Faults.{tailCheck}
 use Rattle.message.specs.declared.fields.Message.{Message}
 use Rattle.message.proofs.Laws.{no-refusal}
-use Rattle.writer.specs.Layout.{sizeOf}
+use Rattle.layout.specs.Layout.{sizeOf}
 use Rattle.writer.specs.Writing.{bodyFits, isDone, writeCheck}
 
 pub record Allowed (magic : ℕ) (m : Message) (tail : List ℕ) (n : ℕ) : Type 0 where

@@ -1,4 +1,2 @@
-pub mod Buffer
 pub mod Allowed
-pub mod Spread
 pub mod Determined

@@ -2,7 +2,7 @@
 use Prim.Native.Nat.{ℕ, _+_, _^_}
 use mathlib.Core.List.{List}
 use mathlib.Core.Bool.{Bool, true, false, not, _&&_}
-use lib.Dec.{eqb, ltb, leb}
+use lib.Dec.{eqb, ltb}
 use lib.ListN.{length, drop}
 use Rattle.refusal.specs.Choice.{refuse}
 use Rattle.refusal.specs.declared.Refusal.the-variants.{Field, Room}
@@ -15,7 +15,7 @@ use Rattle.message.specs.declared.fields.Timestamp.{Timestamp}
 use Rattle.message.specs.declared.fields.Body.{Body}
 use Rattle.message.specs.declared.fields.Body.the-variants as body
 use Rattle.message.specs.declared.fields.Message.{Message}
-use Rattle.writer.specs.Layout.{sizeOf, messageOctets}
+use Rattle.layout.specs.Layout.{sizeOf, messageOctets}
 use Rattle.writer.specs.declared.writing.Written.{Written}
 use Rattle.writer.specs.declared.writing.Written.the-variants as written
 

@@ -1,7 +1,6 @@
 // A message and its tail, checked and written.
 ghost use mathlib.Core.Path.{_≡_};
 ghost use Rattle.writer.specs.Writing.{stampFits, bodyFits, typeCheck, writeCheck, writeOf, bufferOf};
-ghost use lib.ListN.{length};
 use message::fields::Body;
 use message::fields::Message;
 use message::fields::Timestamp;
@@ -56,7 +55,7 @@ fn check(m: Message, tail: &[u8], magic: u16, room: usize) -> Outcome
     if !body_fits(b) {
         return Outcome::Refused(Refusal::Field);
     }
-    let size = message::fields::fixed_size(crate::layout::kind_of(b));
+    let size = message::fields::fixed_size(layout::kind_of(b));
     if tail.len() > 65535 - size {
         return Outcome::Refused(Refusal::Field);
     }
@@ -82,11 +81,11 @@ pub fn write(out: &mut [u8], m: Message, tail: &[u8], magic: u16) -> Written
         Outcome::Done => {
             let b = m.body;
             let h = m.header;
-            let size = message::fields::fixed_size(crate::layout::kind_of(b));
+            let size = message::fields::fixed_size(layout::kind_of(b));
             let n = size + tail.len();
-            crate::layout::put_header(out, h, b, n as u16);
-            crate::layout::put_body(out, b);
-            crate::layout::copy_in(out, size, tail);
+            layout::put_header(out, h, b, n as u16);
+            layout::put_body(out, b);
+            layout::copy_in(out, size, tail);
             Written::Octets(n)
         }
     }

@@ -5,7 +5,6 @@
 // here but what `writer` refuses.
 ghost use mathlib.Core.Path.{_≡_};
 ghost use Prim.Native.Nat.{_+_, _≤_};
-ghost use lib.ListN.{length};
 ghost use mathlib.Core.List.{_∷_};
 ghost use Rattle.octets.specs.Be.{octetsOf};
 ghost use Rattle.writer.specs.Writing.{writeOf, bufferOf};

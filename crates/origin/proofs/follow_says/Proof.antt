@@ -1,5 +1,5 @@
 -- `follow_says` meets its contract: by the checks, then by the match with the Sync.
-use mathlib.Core.Path.{_≡_, sym, _∙_}
+use mathlib.Core.Path.{sym, _∙_}
 use native.Mathlib.Omega.{arith}
 use Rattle.refusal.specs.Choice.{refuse}
 use Rattle.origin.specs.Origin.{followCheck}

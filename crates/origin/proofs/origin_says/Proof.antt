@@ -1,5 +1,5 @@
 -- `origin_says` meets its contract: by the Sync, then by the two-step bit.
-use mathlib.Core.Path.{_≡_, sym, _∙_}
+use mathlib.Core.Path.{sym, _∙_}
 use native.Mathlib.Omega.{arith}
 use Rattle.origin.specs.Origin.{originCheck}
 use Rattle.origin.proofs.Laws.{taken}

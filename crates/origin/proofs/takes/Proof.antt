@@ -1,5 +1,5 @@
 -- `takes` meets its contract: by the checks, then by the type.
-use mathlib.Core.Path.{_≡_, sym, _∙_}
+use mathlib.Core.Path.{sym, _∙_}
 use native.Mathlib.Omega.{arith}
 use borrow.Author.Tests.{eq-eqb, ne-eqb}
 use Rattle.message.proofs.Laws.{fixed-part}

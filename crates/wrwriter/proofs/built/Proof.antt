@@ -1,14 +1,13 @@
 -- `built` meets its contract: octet by octet, then the data as a whole.
 use lib.ListN.{getD, length, drop}
-use mathlib.Core.List.{List, [], _∷_}
-use mathlib.Core.Path.{_≡_, refl, sym, ap, _∙_}
+use mathlib.Core.List.{[], _∷_}
+use mathlib.Core.Path.{_≡_, sym, ap, _∙_}
 use Prim.Native.Nat.{ℕ, _+_}
 use native.Mathlib.Omega.{arith}
 use lib.Seq.{drop-length}
 use Rattle.octets.specs.Be.{octetsOf}
 use Rattle.tlv.specs.Form.{wrForm}
-use Rattle.tlv.specs.declared.form.Form.{Form}
-use Rattle.writer.proofs.Spread.{spread, spread-all}
+use Rattle.layout.proofs.Spread.{spread, spread-all}
 use Rattle.wrwriter.specs.Built.{wrOctets}
 use borrow.Author.Needs.{needs}
 use Rattle.wrwriter.proofs.built.Statement.{statement}

@@ -1,6 +1,6 @@
 -- `calibrate_data` meets its contract: octet by octet.
 use lib.ListN.{getD}
-use mathlib.Core.List.{List, [], _∷_}
+use mathlib.Core.List.{_∷_}
 use Rattle.wrwriter.specs.Built.{zeros}
 use borrow.Author.Needs.{needs}
 use Rattle.wrwriter.proofs.calibrate_data.Statement.{statement}

@@ -1,6 +1,6 @@
 -- `calibrated_data` meets its contract: octet by octet.
 use lib.ListN.{getD}
-use mathlib.Core.List.{List, [], _∷_}
+use mathlib.Core.List.{[], _∷_}
 use borrow.Author.Needs.{needs}
 use Rattle.wrwriter.proofs.calibrated_data.Statement.{statement}
 use Rattle.wrwriter.proofs.calibrated_data.Tie as tie

@@ -1,5 +1,5 @@
 -- `link` meets its contract: message by message.
-use mathlib.Core.Path.{_≡_, refl, sym, ap, _∙_}
+use mathlib.Core.Path.{_∙_}
 use Rattle.wrwriter.specs.Built.{wrOctets}
 use borrow.Author.Needs.{needs}
 use Rattle.wrwriter.proofs.link.Statement.{statement}

@@ -1,7 +1,7 @@
 -- `suffix` meets its contract: by what `built` makes of the two octets of wrFlags.
 use lib.ListN.{getD}
-use mathlib.Core.List.{List, [], _∷_}
-use mathlib.Core.Path.{_≡_, refl, sym, ap, _∙_}
+use mathlib.Core.List.{_∷_}
+use mathlib.Core.Path.{_∙_}
 use Rattle.wrwriter.specs.Built.{wrOctets, zeros}
 use borrow.Author.Needs.{needs}
 use Rattle.wrwriter.proofs.suffix.Statement.{statement}

@@ -1,6 +1,5 @@
 -- `write_link` meets its contract: the tail is the TLV that `link` makes.
-use mathlib.Core.Path.{_≡_, refl, sym, ap, _∙_}
-use native.Mathlib.Omega.{arith}
+use mathlib.Core.Path.{_≡_, sym, ap, _∙_}
 use Prim.Native.Nat.{ℕ}
 use lib.ListN.{length, take}
 use mathlib.Core.List.{List}

@@ -7,7 +7,7 @@ use lib.ListN.{length}
 use Rattle.refusal.specs.Choice.{refuse}
 use Rattle.message.specs.Fields.{fixedSize}
 use Rattle.message.proofs.Laws.{size-most}
-use Rattle.writer.specs.Layout.{sizeOf}
+use Rattle.layout.specs.Layout.{sizeOf}
 use Rattle.writer.specs.Writing.{writeCheck}
 use borrow.Author.Needs.{needs}
 use Rattle.writer.proofs.writing.check.Statement.{statement}

@@ -2,13 +2,11 @@
 use mathlib.Core.Path.{_≡_, sym, ap, _∙_}
 use native.Mathlib.Omega.{arith}
 use lib.ListN.{length}
-use Prim.Native.Nat.{_+_}
-use mathlib.Core.List.{[]}
 use Rattle.message.specs.Fields.{fixedSize}
-use Rattle.writer.specs.Layout.{sizeOf}
+use Rattle.layout.specs.Layout.{sizeOf}
 use Rattle.writer.specs.Writing.{writeOf, bufferOf}
 use Rattle.writer.proofs.Allowed.{Allowed, allowed}
-use Rattle.writer.proofs.Buffer.{least, assembled}
+use Rattle.layout.proofs.Buffer.{least, assembled}
 use borrow.Author.Needs.{needs}
 use Rattle.writer.proofs.writing.write.Statement.{statement}
 use Rattle.writer.proofs.writing.write.Tie as tie
