@@ -1,0 +1,41 @@
+-- What a Sync and a Follow_Up say that were taken.
+use Prim.Native.Nat.{ℕ, _≤_}
+use mathlib.Core.Path.{_≡_, refl}
+use mathlib.Core.List.{List}
+use mathlib.Core.Bool.{true}
+use borrow.Author.Tests.{eqb-true, not-false}
+use lib.ListN.{length}
+use Rattle.refusal.proofs.Choice.{passed}
+use Rattle.refusal.specs.declared.Outcome.{Outcome}
+use Rattle.refusal.specs.declared.Outcome.the-variants.{Done, Refused}
+use Rattle.message.specs.Fields.{typeOf}
+use Rattle.message.specs.Reading.{checkOf, by}
+use Rattle.message.proofs.Laws.{no-refusal, fixed-part}
+use Rattle.origin.specs.Origin.{isTwoStep, takesOf, follows, followCheck, originCheck}
+
+both-done : (x y : Outcome) → by x Refused y ≡ Done → (x ≡ Done) × (y ≡ Done)
+both-done Done y e = (refl, e)
+both-done (Refused z) y e = absurd (no-refusal z e)
+
+pub record Taken (magic kind : ℕ) (s : List ℕ) : Type 0 where
+  pub checked : checkOf magic s ≡ Done
+  pub type-is : typeOf s ≡ kind
+  pub fixed : 44 ≤ length s
+
+pub taken : (magic kind : ℕ) (s : List ℕ) → takesOf magic kind s ≡ Done → Taken magic kind s
+unfolding takesOf
+taken magic kind s e =
+    let p = both-done (checkOf magic s) _ e in
+    let q = passed _ _ _ _ (no-refusal _) (p .1) in
+    record { checked = p .0; type-is = eqb-true _ _ (not-false _ (q .0)); fixed = fixed-part magic s (p .0) .0 }
+
+pub sync-taken : (magic : ℕ) (s f : List ℕ) → originCheck magic s f ≡ Done → Taken magic 0x0 s
+unfolding originCheck
+sync-taken magic s f e = taken magic 0x0 s (both-done (takesOf magic 0x0 s) _ e .0)
+
+pub follow-taken : (magic : ℕ) (s f : List ℕ) → originCheck magic s f ≡ Done → isTwoStep s ≡ true → Taken magic 0x8 f × (follows s f ≡ true)
+unfolding originCheck followCheck
+follow-taken magic s f e t =
+    let p = both-done (takesOf magic 0x0 s) _ e in
+    let q = both-done (takesOf magic 0x8 f) _ (rw t at (p .1)) in
+    (taken magic 0x8 f (q .0), not-false _ (passed _ _ _ _ (no-refusal _) (q .1) .0))

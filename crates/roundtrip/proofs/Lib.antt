@@ -1,0 +1,7 @@
+pub mod Back
+pub mod Written
+pub mod ReadBack
+pub mod WriteBack
+pub mod OneTlv
+pub mod WrBack
+pub mod Edges
