@@ -1,0 +1,5 @@
+pub mod Agreement
+pub mod Symmetry
+pub mod Decisions
+pub mod Determined
+pub mod Witnesses

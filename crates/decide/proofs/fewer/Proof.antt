@@ -1,0 +1,60 @@
+-- `fewer` meets its contract: the difference is two or more, or the identities of the set with more steps decide.
+use Prim.Native.Nat.{_+_}
+use native.Mathlib.Omega.{arith}
+use mathlib.Core.Path.{sym, _∙_}
+use borrow.Author.Tests.{le-leb, lt-leb}
+use Rattle.decide.specs.Comparing.{fewerOf}
+use borrow.Author.Needs.{needs}
+use Rattle.decide.proofs.fewer.Statement.{statement}
+use Rattle.decide.proofs.fewer.Tie as tie
+
+sub-if1 : tie.Need-sub-if1
+sub-if1 c = search needs
+
+returns : tie.Need-returns
+unfolding fewerOf
+returns c =
+    let s = c .before .before .before .args in
+    simp (le-leb (s .a .steps + 2) (s .b .steps) (omega arith))
+
+precedes-requires : tie.Need-precedes-requires
+precedes-requires c κs = search needs
+
+returns-2 : tie.Need-returns-2
+unfolding fewerOf
+returns-2 c =
+    let e1 = c .before .before .before .before in
+    let s = e1 .before .before .before .args in
+    simp (lt-leb (s .a .steps + 2) (s .b .steps) (omega arith), sym (c .before .precedes .ensures) ∙ c .if2 .taken)
+
+precedes-requires-2 : tie.Need-precedes-requires-2
+precedes-requires-2 c κs = search needs
+
+returns-3 : tie.Need-returns-3
+unfolding fewerOf
+returns-3 c =
+    let e2 = c .before .before in
+    let e1 = e2 .before .before .before .before in
+    let s = e1 .before .before .before .args in
+    simp (
+      lt-leb (s .a .steps + 2) (s .b .steps) (omega (arith, e1 .if1 .left)),
+      sym (e2 .before .precedes .ensures) ∙ e2 .if2 .left,
+      sym (c .before .precedes2 .ensures) ∙ c .if3 .taken,
+    )
+
+returns-4 : tie.Need-returns-4
+unfolding fewerOf
+returns-4 c =
+    let e2 = c .before .before in
+    let e1 = e2 .before .before .before .before in
+    let s = e1 .before .before .before .args in
+    simp (
+      lt-leb (s .a .steps + 2) (s .b .steps) (omega (arith, e1 .if1 .left)),
+      sym (e2 .before .precedes .ensures) ∙ e2 .if2 .left,
+      sym (c .before .precedes2 .ensures) ∙ c .if3 .left,
+    )
+
+pub fewer-spec : {M : Type 1} → statement M
+fewer-spec =
+    tie.close
+    (tie.spec sub-if1 returns precedes-requires returns-2 precedes-requires-2 returns-3 returns-4)

@@ -1,0 +1,71 @@
+-- `holds_from` meets its contract: what is left to look at holds the port exactly when all of it does.
+use Prim.Native.Nat.{_-_}
+use mathlib.Core.Path.{_≡_, refl}
+use native.Mathlib.Omega.{arith}
+use borrow.Author.Needs.{needs}
+use borrow.Author.Tests.{eq-eqb, ne-eqb}
+use lib.ListN.{length, drop, length-map}
+use Rattle.rank.specs.Ranked.{holdsOf, unpack, blankOf}
+use Rattle.rank.proofs.Sinking.{here, none}
+use Rattle.rank.proofs.holds_from.Statement.{statement}
+use Rattle.rank.proofs.holds_from.Tie as tie
+
+abbrev Inv-loop : tie.InvT-loop
+Inv-loop p from r n i₀ i = holdsOf p (drop i (unpack r)) ≡ holdsOf p (drop from (unpack r))
+
+abbrev μ-loop : tie.MeasureT-loop
+μ-loop p from r n i₀ i = n - i
+
+slots : (c : tie.Start Inv-loop μ-loop) → length (c .args .t1 .slots) ≡ 4
+slots c = simp length-map at (c .good .0 .1 .1 .1 .0 .1 .0 .1)
+
+used-requires : tie.Need-used-requires Inv-loop μ-loop
+used-requires c κs = search needs
+
+loop-holds : tie.Need-loop-holds Inv-loop μ-loop
+loop-holds c = refl
+
+mul-x : tie.Need-mul-x Inv-loop μ-loop
+mul-x c = search needs
+
+element-copy-out-x : tie.Need-element-copy-out-x Inv-loop μ-loop
+element-copy-out-x c = search needs
+
+returns : tie.Need-returns Inv-loop μ-loop
+returns c =
+    let l = c .before .before .before .before in
+    let h = here (l .before .before .args .t1) (l .loop .i) blankOf (slots (l .before .before)) (omega (arith, l .before .used .ensures)) in
+    simp (eq-eqb _ _ (c .if1 .taken)) at (rw h at (l .loop .inv))
+
+add-i : tie.Need-add-i Inv-loop μ-loop
+add-i c = search needs
+
+loop-less : tie.Need-loop-less Inv-loop μ-loop
+loop-less c = search needs
+
+loop-again : tie.Need-loop-again Inv-loop μ-loop
+loop-again c =
+    let l = c .before .before .before .before in
+    let h = here (l .before .before .args .t1) (l .loop .i) blankOf (slots (l .before .before)) (omega (arith, l .before .used .ensures)) in
+    simp (ne-eqb _ _ (c .if1 .left)) at (rw h at (l .loop .inv))
+
+returns-2 : tie.Need-returns-2 Inv-loop μ-loop
+returns-2 c =
+    let l = c .before in
+    rw (none (l .before .before .args .t1) (l .loop .i) (slots (l .before .before)) (omega (arith, l .before .used .ensures))) at (l .loop .inv)
+
+pub holds-from-spec : {M : Type 1} → statement M
+holds-from-spec =
+    tie.close
+    (tie.spec
+    Inv-loop
+    μ-loop
+    used-requires
+    loop-holds
+    mul-x
+    element-copy-out-x
+    returns
+    add-i
+    loop-less
+    loop-again
+    returns-2)

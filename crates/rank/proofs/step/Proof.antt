@@ -1,0 +1,50 @@
+-- `step` meets its contract: what is refused stays; else the port is tested, and the candidate inserted.
+use mathlib.Core.Path.{_≡_, sym, _∙_}
+use borrow.Author.Tests.{not-true, not-false}
+use Rattle.refusal.specs.Choice.{refuse}
+use borrow.Author.Needs.{needs}
+use Rattle.rank.proofs.step.Statement.{statement}
+use Rattle.rank.proofs.step.Tie as tie
+
+enum-told : tie.Need-enum-told
+enum-told c = search needs
+
+enum-told-2 : tie.Need-enum-told-2
+enum-told-2 c = search needs
+
+returns : tie.Need-returns
+returns c = search needs
+
+is-port-requires : tie.Need-is-port-requires
+is-port-requires c κs = search needs
+
+refused-requires : tie.Need-refused-requires
+refused-requires c κs = search needs
+
+returns-2 : tie.Need-returns-2
+unfolding refuse
+returns-2 c =
+    let p = c .before .before in
+    rw (c .refused .ensures, p .before .enum-told .given .1, sym (p .is-port .ensures) ∙ not-true _ (c .before .if1 .taken))
+
+insert-requires : tie.Need-insert-requires
+insert-requires c κs = search needs
+
+returns-3 : tie.Need-returns-3
+unfolding refuse
+returns-3 c =
+    let p = c .before .before .before in
+    rw (c .insert .ensures, p .before .enum-told .given .1, sym (p .is-port .ensures) ∙ not-false _ (c .before .before .if1 .left))
+
+pub step-spec : {M : Type 1} → statement M
+step-spec =
+    tie.close
+    (tie.spec
+    enum-told
+    enum-told-2
+    returns
+    is-port-requires
+    refused-requires
+    returns-2
+    insert-requires
+    returns-3)

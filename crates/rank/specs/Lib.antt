@@ -1,0 +1,4 @@
+pub mod Order
+pub mod Best
+pub mod Ranked
+pub mod Calls

@@ -1,0 +1,384 @@
+// Candidates, ranked. A candidate is what a card knows of one master that it hears on one port. Rank order
+// sorts candidates; a ranked list holds the best candidate of each port, in rank order, cut after four.
+// Ranked lists merge, in any order and any grouping, to the ranked list of everything that was heard.
+//
+// Ranking a run refuses 17 (more than 288 candidates), then 8 (a port outside 1 to 18); merging refuses 15
+// (a list that is not a ranked list). Where either refuses, the list that comes with the refusal is empty.
+// Which candidates a port has is left to the sender records, and what a port does about them to the decision.
+ghost use mathlib.Core.Path.{_≡_};
+ghost use mathlib.Core.List.{[]};
+ghost use Prim.Native.Nat.{_<_, min};
+ghost use lib.ListN.{drop};
+ghost use Rattle.rank.specs.Order.{identityOf, gradeOf, lex, same, keysOf, earlierOf};
+ghost use Rattle.rank.specs.Ranked.{isPort, blankOf, pack, unpack, leftOut, sinkOf, insertOf, insertAll, holdsOf, standsOf, isRanked};
+ghost use Rattle.rank.specs.Calls.{refusedOf, mergeOf, startOf, turnsOf, stepOf, rankingOf};
+use refusal::Outcome;
+use refusal::Refusal;
+
+// The ports of the clock are numbered from 1 to this.
+const PORTS: u8 = 18;
+
+// A ranked list is cut after so many.
+const PLACES: usize = 4;
+
+// A run holds at most so many candidates.
+const MOST: usize = 288;
+
+// The ten octets that name a port of a clock.
+pub struct PortIdentity {
+    pub clock: u64,
+    pub port: u16,
+}
+
+// A grandmaster as it announces itself: its quality, and its clockIdentity.
+pub struct Grandmaster {
+    pub priority1: u8,
+    pub class: u8,
+    pub accuracy: u8,
+    pub variance: u16,
+    pub priority2: u8,
+    pub identity: u64,
+}
+
+// What a card knows of one master: the ten keys of rank order, and nothing else.
+pub struct Candidate {
+    pub grandmaster: Grandmaster,
+    pub steps: u16,
+    pub sender: PortIdentity,
+    pub port: u8,
+    pub wrflags: u16,
+}
+
+// Whether `a` comes before `b` as ten octets, clock then port.
+pub fn precedes(a: PortIdentity, b: PortIdentity) -> bool
+    ensures { λ r. ⌜ r ≡ lex (identityOf a) (identityOf b) ⌝ }
+{
+    if a.clock != b.clock {
+        return a.clock < b.clock;
+    }
+    a.port < b.port
+}
+
+// Whether grandmaster `a` comes before `b`: at the first of its six keys that differs, the lower.
+pub fn outranks(a: Grandmaster, b: Grandmaster) -> bool
+    ensures { λ r. ⌜ r ≡ lex (gradeOf a) (gradeOf b) ⌝ }
+{
+    if a.priority1 != b.priority1 {
+        return a.priority1 < b.priority1;
+    }
+    if a.class != b.class {
+        return a.class < b.class;
+    }
+    if a.accuracy != b.accuracy {
+        return a.accuracy < b.accuracy;
+    }
+    if a.variance != b.variance {
+        return a.variance < b.variance;
+    }
+    if a.priority2 != b.priority2 {
+        return a.priority2 < b.priority2;
+    }
+    a.identity < b.identity
+}
+
+// Whether two grandmasters have the same six keys.
+fn alike(a: Grandmaster, b: Grandmaster) -> bool
+    ensures { λ r. ⌜ r ≡ same (gradeOf a) (gradeOf b) ⌝ }
+{
+    (a.priority1 == b.priority1)
+        & (a.class == b.class)
+        & (a.accuracy == b.accuracy)
+        & (a.variance == b.variance)
+        & (a.priority2 == b.priority2)
+        & (a.identity == b.identity)
+}
+
+// Whether `a` stands before `b` in rank order.
+pub fn earlier(a: Candidate, b: Candidate) -> bool
+    ensures { λ r. ⌜ r ≡ earlierOf a b ⌝ }
+{
+    let g = a.grandmaster;
+    let h = b.grandmaster;
+    if !alike(g, h) {
+        return outranks(g, h);
+    }
+    if a.steps != b.steps {
+        return a.steps < b.steps;
+    }
+    let s = a.sender;
+    let t = b.sender;
+    if s.clock != t.clock {
+        return s.clock < t.clock;
+    }
+    if s.port != t.port {
+        return s.port < t.port;
+    }
+    if a.port != b.port {
+        return a.port < b.port;
+    }
+    a.wrflags < b.wrflags
+}
+
+// Whether the clock has a port of this number.
+pub fn is_port(p: u8) -> bool
+    ensures { λ r. ⌜ r ≡ isPort p ⌝ }
+{
+    (1 <= p) & (p <= PORTS)
+}
+
+// A ranked list: the first `len` of the slots. The slots past them say nothing.
+pub struct Ranked {
+    pub len: usize,
+    pub slots: [Candidate; 4],
+}
+
+// What an unused slot holds.
+fn blank() -> Candidate
+    ensures { λ r. ⌜ r ≡ blankOf ⌝ }
+{
+    Candidate {
+        grandmaster: Grandmaster {
+            priority1: 0,
+            class: 0,
+            accuracy: 0,
+            variance: 0,
+            priority2: 0,
+            identity: 0,
+        },
+        steps: 0,
+        sender: PortIdentity { clock: 0, port: 0 },
+        port: 0,
+        wrflags: 0,
+    }
+}
+
+// The ranked list of nothing.
+pub fn empty() -> Ranked
+    ensures { λ r. ⌜ r ≡ pack [] ⌝ }
+{
+    let b = blank();
+    Ranked {
+        len: 0,
+        slots: [b; 4],
+    }
+}
+
+// How many slots a length says are used: all of them where it says more.
+fn used(len: usize) -> usize
+    ensures { λ r. ⌜ r ≡ min len 4 ⌝ }
+{
+    if len < PLACES { len } else { PLACES }
+}
+
+// Whether a list is full and a candidate does not stand before its last: then there is no place for it.
+fn left_out(r: Ranked, c: Candidate) -> bool
+    ensures { λ b. ⌜ b ≡ leftOut r c ⌝ }
+{
+    if r.len != PLACES {
+        return false;
+    }
+    let y = r.slots[3];
+    !earlier(c, y)
+}
+
+// A candidate goes down the list, and whichever of two stands later goes on, until one is left out: at an entry of the
+// candidate's own port, or past the last slot.
+fn sink(r: Ranked, c: Candidate) -> Ranked
+    ensures { λ q. ⌜ q ≡ sinkOf r c ⌝ }
+{
+    let p = c.port;
+    let n = used(r.len);
+    let mut slots = r.slots;
+    let mut x = c;
+    let mut i: usize = 0;
+    while i < n {
+        let y = slots[i];
+        if earlier(x, y) {
+            slots[i] = x;
+            x = y;
+        }
+        if y.port == p {
+            return Ranked { len: n, slots };
+        }
+        i += 1;
+    }
+    if n < PLACES {
+        slots[n] = x;
+        return Ranked { len: n + 1, slots };
+    }
+    Ranked { len: n, slots }
+}
+
+// The ranked list with one candidate more.
+pub fn insert(r: Ranked, c: Candidate) -> Ranked
+    ensures { λ q. ⌜ q ≡ insertOf r c ⌝ }
+{
+    if left_out(r, c) {
+        return r;
+    }
+    sink(r, c)
+}
+
+// A ranked list with each candidate of another more.
+fn insert_all(to: Ranked, from: Ranked) -> Ranked
+    ensures { λ r. ⌜ r ≡ insertAll to (unpack from) ⌝ }
+{
+    let n = used(from.len);
+    let mut r = to;
+    let mut i: usize = 0;
+    while i < n {
+        let y = from.slots[i];
+        r = insert(r, y);
+        i += 1;
+    }
+    r
+}
+
+// Whether a candidate of port `p` is in the list, from slot `from` on.
+fn holds_from(r: Ranked, p: u8, from: usize) -> bool
+    ensures { λ b. ⌜ b ≡ holdsOf p (drop from (unpack r)) ⌝ }
+{
+    let n = used(r.len);
+    let mut i = from;
+    while i < n {
+        let x = r.slots[i];
+        if x.port == p {
+            return true;
+        }
+        i += 1;
+    }
+    false
+}
+
+// Whether a candidate of port `p` is in the list.
+pub fn holds(r: Ranked, p: u8) -> bool
+    ensures { λ b. ⌜ b ≡ holdsOf p (unpack r) ⌝ }
+{
+    holds_from(r, p, 0)
+}
+
+// Whether slot `i`, a used one, is as in a ranked list: its port is the clock's and no later slot's, and the next
+// slot's candidate stands after it.
+fn stands(r: Ranked, i: usize) -> bool
+    requires { ⌜ i < min (r .len) 4 ⌝ }
+    ensures { λ b. ⌜ b ≡ standsOf (drop i (unpack r)) ⌝ }
+{
+    let x = r.slots[i];
+    let p = x.port;
+    if !is_port(p) {
+        return false;
+    }
+    if holds_from(r, p, i + 1) {
+        return false;
+    }
+    if i + 1 < used(r.len) {
+        let y = r.slots[i + 1];
+        return earlier(x, y);
+    }
+    true
+}
+
+// Whether a list is a ranked list: at most four, of different ports from 1 to 18, rising strictly in rank order.
+pub fn is_ranked(r: Ranked) -> bool
+    ensures { λ b. ⌜ b ≡ isRanked r ⌝ }
+{
+    let n = r.len;
+    if PLACES < n {
+        return false;
+    }
+    let mut i: usize = 0;
+    while i < n {
+        if !stands(r, i) {
+            return false;
+        }
+        i += 1;
+    }
+    true
+}
+
+// What ranking and merging answer: done and the list, or the refusal and an empty list.
+pub struct Ranking {
+    pub outcome: Outcome,
+    pub list: Ranked,
+}
+
+// A refusal, with the empty list.
+fn refused(x: Refusal) -> Ranking
+    ensures { λ r. ⌜ r ≡ refusedOf x ⌝ }
+{
+    Ranking {
+        outcome: Outcome::Refused(x),
+        list: empty(),
+    }
+}
+
+// The ranked list of all that two ranked lists were ranked of.
+pub fn merge(a: Ranked, b: Ranked) -> Ranking
+    ensures { λ r. ⌜ r ≡ mergeOf a b ⌝ }
+{
+    if !is_ranked(a) {
+        return refused(Refusal::Unranked);
+    }
+    if !is_ranked(b) {
+        return refused(Refusal::Unranked);
+    }
+    let list = insert_all(insert_all(empty(), a), b);
+    Ranking {
+        outcome: Outcome::Done,
+        list,
+    }
+}
+
+// Where the ranking of a run of `n` candidates starts.
+pub fn start(n: usize) -> Ranking
+    ensures { λ r. ⌜ r ≡ startOf n ⌝ }
+{
+    if MOST < n {
+        return refused(Refusal::Many);
+    }
+    Ranking {
+        outcome: Outcome::Done,
+        list: empty(),
+    }
+}
+
+// One candidate of a run more: what is refused stays refused.
+pub fn step(s: Ranking, c: Candidate) -> Ranking
+    ensures { λ r. ⌜ r ≡ stepOf s c ⌝ }
+{
+    let outcome = s.outcome;
+    let Outcome::Done = outcome else {
+        return s;
+    };
+    let p = c.port;
+    if !is_port(p) {
+        return refused(Refusal::Port);
+    }
+    let list = s.list;
+    Ranking {
+        outcome,
+        list: insert(list, c),
+    }
+}
+
+// How many candidates of a run of `n` are looked at: all, or none where they are too many.
+fn turns(n: usize) -> usize
+    ensures { λ r. ⌜ r ≡ turnsOf n ⌝ }
+{
+    if MOST < n { 0 } else { n }
+}
+
+// The ranked list of a run of candidates, which come in any order and may be repeated.
+pub fn rank(run: &[Candidate]) -> Ranking
+    ensures { λ r. ⌜ r ≡ rankingOf (now (run .entry)) ⌝ }
+{
+    let n = run.len();
+    let m = turns(n);
+    let mut s = start(n);
+    let mut i: usize = 0;
+    while i < m {
+        s = step(s, run[i]);
+        i += 1;
+    }
+    s
+}
