@@ -13,7 +13,7 @@ use Rattle.senders.specs.declared.Record.{Record}
 use Rattle.senders.specs.declared.Plan.{Plan}
 use Rattle.senders.specs.declared.Plan.the-variants.{Refuse, Put}
 use Rattle.senders.specs.Record.{freshOf, nextOf}
-use Rattle.senders.specs.Port.{Port, portAfter, planOf}
+use Rattle.senders.specs.Port.{Port, slotOf, portAfter, planOf}
 use Rattle.senders.proofs.Intake.{plan-cases}
 use Rattle.slots.specs.Words.{idWord, gradeWord, recordOf, wordsOf, slotAt, slotsOf, portOf, putSlot, wordsAfter, Small}
 use Rattle.slots.proofs.Laws.{length-splice, block-same, block-before, block-after, getD-before, set-tab, tab-ext, length-tab}
@@ -160,7 +160,7 @@ module _ (ws : List ℕ) (t : ℕ) (a : Notice) (n : length ws ≡ 98) where
       plan-cases (portOf ws) t a size (λ q. portOf (wordsAfter ws t q) ≡ portAfter (portOf ws) t q)
       (record {
         backward = λ l. refl;
-        renewed = λ i l h o v f. put-means ws t i _ n h (small-next _ t a small);
+        renewed = λ i l h o v f. put-means ws t i _ n h (small-next (slotOf (portOf ws) i) t a small);
         stale = λ i l h o v f. refl;
         restarted = λ i l h o v. put-means ws t i _ n h (small-fresh t a small);
         placed = λ j l f h v b. put-means ws t j _ n h (small-fresh t a small);
