@@ -1,0 +1,83 @@
+-- `take_in` meets its contract: what is not admitted is refused; else the port's own words are lent on.
+use mathlib.Core.Path.{_∙_, sym, ap}
+use Prim.Native.Nat.{ℕ}
+use Rattle.slots.specs.Words.{splice}
+use Rattle.slots.proofs.Laws.{back}
+use Rattle.ports.proofs.Laws.{admitted-port, lent-own, take-refused, take-on}
+use borrow.Author.Needs.{needs}
+use Rattle.ports.proofs.intake.take_in.Statement.{statement}
+use Rattle.ports.proofs.intake.take_in.Tie as tie
+
+admit-requires : tie.Need-admit-requires
+admit-requires c κs = search needs
+
+enum-known-admitted : tie.Need-enum-known-admitted
+enum-known-admitted c = search needs
+
+enum-known-admitted-2 : tie.Need-enum-known-admitted-2
+enum-known-admitted-2 c = search needs
+
+start-requires : tie.Need-start-requires
+start-requires c κs =
+    let a = c .before in
+    let d = a .before .before in
+    let g = d .before .before .before .args in
+    admitted-port (g .set) (g .port) (g .s .now) _ (sym (d .admit .ensures) ∙ a .admitted2 .given .1)
+
+add-take : tie.Need-add-take
+add-take c = search needs
+
+mul-take : tie.Need-mul-take
+mul-take c = search needs
+
+sub-take : tie.Need-sub-take
+sub-take c = search needs
+
+part-take-start : tie.Need-part-take-start
+part-take-start c = search needs
+
+part-take-end : tie.Need-part-take-end
+part-take-end c = search needs
+
+take-requires : tie.Need-take-requires
+take-requires c κs = search needs
+
+returns : tie.Need-returns
+returns c =
+    let d = c .before .before .before in
+    let g = d .before .before .before .args in
+    take-refused (g .set) (g .words .now) (g .port) (g .t) (g .s .now) _ _ (d .admit .ensures) (c .before .admitted .given .1)
+
+same-length : tie.Need-same-length
+same-length c = search needs
+
+returns-2 : tie.Need-returns-2
+returns-2 c =
+    let k = c .before .before in
+    let s = k .before .before in
+    let a = s .before .before in
+    let d = a .before .before in
+    let g = d .before .before .before .args in
+    let b = s .start .result in
+    let w =
+    take-on (g .set) (g .words .now) (g .port) (g .t) (g .s .now) _ _ _ (k .take .last .0) _ (d .admit .ensures) (a .admitted2 .given .1)
+    (lent-own (g .words .now) (g .port) b (s .start .ensures .0)) (k .take .ensures) in
+    (w .0, back (g .words .now) (k .take .last .0) b 98 ∙ ap (λ (n : ℕ). splice (g .words .now) n 98 (k .take .last .0)) (s .start .ensures .0) ∙ w .1)
+
+pub take-in-spec : {M : Type 1} → statement M
+take-in-spec =
+    tie.close
+    (tie.spec
+    admit-requires
+    enum-known-admitted
+    enum-known-admitted-2
+    start-requires
+    add-take
+    mul-take
+    sub-take
+    part-take-start
+    part-take-end
+    take-requires
+    returns
+    same-length
+    returns-2)

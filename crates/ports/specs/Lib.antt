@@ -1,0 +1,4 @@
+pub mod Words
+pub mod Intake
+pub mod Interval
+pub mod Asking

@@ -1,0 +1,103 @@
+// Taking an Announce from octets on one port of eighteen. Refused in this order: 8 (a port outside 1 to 18), the reading
+// checks (1 to 7), 3 (another message than an Announce), 9 (another domain), 10 (our own clock), 11, 12, 13. Where it refuses, no
+// word changes; an Announce that is taken writes one record and one time.
+ghost use mathlib.Core.Path.{_≡_};
+ghost use lib.ListN.{length};
+ghost use Rattle.senders.specs.Port.{outcomeOf};
+ghost use Rattle.ports.specs.Intake.{noticeOf, judgedOf, admittedOf, planAt, stateAfter};
+use message::announce::Announced;
+use message::announce::Heard;
+use rank::Grandmaster;
+use rank::PortIdentity;
+use refusal::Outcome;
+use refusal::Refusal;
+use senders::Notice;
+
+// What an Announce is judged by: our domain and clockIdentity, and the magic of White Rabbit's TLVs.
+pub struct Settings {
+    pub domain: u8,
+    pub clock: u64,
+    pub magic: u16,
+}
+
+// What the port's records are asked about, or why they are not.
+pub enum Admitted {
+    Refused(Refusal),
+    Notice(Notice),
+}
+
+// What is kept of an Announce.
+fn notice(h: Heard) -> Notice
+    ensures { λ r. ⌜ r ≡ noticeOf h ⌝ }
+{
+    let header = h.header;
+    let source = header.source;
+    let a = h.announce;
+    Notice {
+        sender: PortIdentity {
+            clock: source.clock,
+            port: source.port,
+        },
+        sequence: header.sequence,
+        grandmaster: Grandmaster {
+            priority1: a.priority1,
+            class: a.class,
+            accuracy: a.accuracy,
+            variance: a.variance,
+            priority2: a.priority2,
+            identity: a.grandmaster,
+        },
+        steps: a.steps,
+        wrflags: h.flags,
+    }
+}
+
+// 9 where the domain is another, 10 where the sender is our own clock.
+fn judge(h: Heard, set: Settings) -> Admitted
+    ensures { λ r. ⌜ r ≡ judgedOf set h ⌝ }
+{
+    let header = h.header;
+    let source = header.source;
+    if header.domain != set.domain {
+        return Admitted::Refused(Refusal::Domain);
+    }
+    if source.clock == set.clock {
+        return Admitted::Refused(Refusal::Own);
+    }
+    Admitted::Notice(notice(h))
+}
+
+// All that is asked before the port's records are looked at.
+fn admit(port: u8, s: &[u8], set: Settings) -> Admitted
+    ensures { λ r. ⌜ r ≡ admittedOf set port (now (s .entry)) ⌝ }
+{
+    if !rank::is_port(port) {
+        return Admitted::Refused(Refusal::Port);
+    }
+    let read = message::announce::read_announce(s, set.magic);
+    match read {
+        Announced::Refused(x) => Admitted::Refused(x),
+        Announced::Whole(h) => judge(h, set),
+    }
+}
+
+fn take_in(words: &mut [u64], port: u8, t: u64, s: &[u8], set: Settings) -> Outcome
+    requires { ⌜ length (now words) ≡ 1764 ⌝ }
+    ensures { λ r. ⌜ (r ≡ outcomeOf (planAt set (now (words .entry)) port t (now (s .entry)))) × (now (words .exit) ≡ stateAfter (now (words .entry)) port t (planAt set (now (words .entry)) port t (now (s .entry)))) ⌝ }
+{
+    let admitted = admit(port, s, set);
+    match admitted {
+        Admitted::Refused(x) => Outcome::Refused(x),
+        Admitted::Notice(a) => {
+            let b = crate::start(port);
+            slots::take(&mut words[b..b + 98], t, a)
+        }
+    }
+}
+
+// Takes the Announce in `s` on a port at `t`, or refuses it.
+pub fn take(words: &mut [u64; 1764], port: u8, t: u64, s: &[u8], set: Settings) -> Outcome
+    ensures { λ r. ⌜ (r ≡ outcomeOf (planAt set (now (words .entry)) port t (now (s .entry)))) × (now (words .exit) ≡ stateAfter (now (words .entry)) port t (planAt set (now (words .entry)) port t (now (s .entry)))) ⌝ }
+{
+    take_in(&mut words[..], port, t, s, set)
+}

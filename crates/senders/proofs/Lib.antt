@@ -1,0 +1,6 @@
+pub mod Table
+pub mod First
+pub mod Intake
+pub mod Candidates
+pub mod Witnesses
+pub mod Determined

@@ -1,0 +1,98 @@
+-- Worked inputs, computed: rows 3 to 8 of 01's "Worked at the edges", the eight windows, and histories of one port that
+-- rule out an intake that does nothing, refuses everything or has one answer.
+use mathlib.Core.Path.{_≡_, refl}
+use mathlib.Core.Bool.{Bool, true, false}
+use mathlib.Core.List.{List, [], _∷_, map}
+use Prim.Native.Nat.{ℕ}
+use Rattle.refusal.specs.Choice.{refuse}
+use Rattle.refusal.specs.declared.Refusal.the-variants.{Backward, Stale, Full}
+use Rattle.senders.specs.declared.Notice.{Notice}
+use Rattle.senders.specs.declared.Record.{Record}
+use Rattle.senders.specs.declared.Plan.{Plan}
+use Rattle.senders.specs.declared.Plan.the-variants.{Refuse, Put}
+use Rattle.senders.specs.Record.{windowOf, isLive, isQualified, isNewer, freshOf, nextOf}
+use Rattle.senders.specs.Port.{Port, emptySlot, tab, first, planOf, portAfter}
+
+-- a sender's Announce, by its clock and number
+abbrev from : ℕ → ℕ → Notice
+from clock n =
+    record {
+      sender = record { clock = clock; port = 1 };
+      sequence = n;
+      grandmaster = emptySlot .notice .grandmaster;
+      steps = 0;
+      wrflags = 0;
+    }
+
+abbrev two : ℕ → ℕ → Record
+two older newest = record { notice = from 7 0; receipts = 2; newest = newest; older = older }
+
+-- "(3) interval 1 s, receipts at 0 and 10^9: qualified at 4,000,000,000; (4) not at 4,000,000,001"
+pub edge-3 : isQualified (windowOf 0) 4000000000 (two 0 1000000000) ≡ true
+edge-3 = refl
+
+pub edge-4 : isQualified (windowOf 0) 4000000001 (two 0 1000000000) ≡ false
+edge-4 = refl
+
+-- "(5) live at 5,000,000,000; (6) expired one later"
+pub edge-5 : isLive (windowOf 0) 5000000000 (two 0 1000000000) ≡ true
+edge-5 = refl
+
+pub edge-6 : isLive (windowOf 0) 5000000001 (two 0 1000000000) ≡ false
+edge-6 = refl
+
+-- "(7) sequence 65,535 then 0 is newer; (8) 0 then 32,768 is STALE"
+pub edge-7 : isNewer 0 65535 ≡ true
+edge-7 = refl
+
+pub edge-8 : isNewer 32768 0 ≡ false
+edge-8 = refl
+
+-- four intervals of an eighth of a second to sixteen seconds: k = 0, 1, 2, 3, 4, -3, -2, -1 modulo 8
+pub windows : map windowOf (0 ∷ 1 ∷ 2 ∷ 3 ∷ 4 ∷ 5 ∷ 6 ∷ 7 ∷ []) ≡ 4000000000 ∷ 8000000000 ∷ 16000000000 ∷ 32000000000 ∷ 64000000000 ∷ 500000000 ∷ 1000000000 ∷ 2000000000 ∷ []
+windows = refl
+
+-- a fresh port, and one with sixteen senders that were heard at 100
+abbrev new : Port
+new = record { last = 0; e = 0; slots = tab 16 (λ i. emptySlot) }
+
+abbrev sixteen : Port
+sixteen = record { last = 100; e = 0; slots = tab 16 (λ i. freshOf 100 (from i 5)) }
+
+-- the first sender takes slot 0, also at time 0
+pub taken : planOf new 0 (from 7 9) ≡ Put 0 (freshOf 0 (from 7 9))
+unfolding planOf first tab refuse
+taken = refl
+
+-- each refusal comes
+pub backward : planOf sixteen 99 (from 3 6) ≡ Refuse Backward
+unfolding planOf first tab refuse
+backward = refl
+
+pub stale : planOf sixteen 100 (from 3 5) ≡ Refuse Stale
+unfolding planOf first tab refuse
+stale = refl
+
+pub full : planOf sixteen 4000000100 (from 16 6) ≡ Refuse Full
+unfolding planOf first tab refuse
+full = refl
+
+-- a sender of sixteen goes on in its slot
+pub newer : planOf sixteen 200 (from 3 6) ≡ Put 3 (nextOf (freshOf 100 (from 3 5)) 200 (from 3 6))
+unfolding planOf first tab refuse
+newer = refl
+
+-- one nanosecond past the window a new sender has the lowest slot, and an old one restarts in its own with any number
+pub reused : planOf sixteen 4000000101 (from 16 6) ≡ Put 0 (freshOf 4000000101 (from 16 6))
+unfolding planOf first tab refuse
+reused = refl
+
+pub restarted : planOf sixteen 4000000101 (from 3 5) ≡ Put 3 (freshOf 4000000101 (from 3 5))
+unfolding planOf first tab refuse
+restarted = refl
+
+-- two ports of one clock are two senders
+pub other-port : planOf (portAfter new 0 (Put 0 (freshOf 0 (from 7 9)))) 0 (record { sender = record { clock = 7; port = 2 }; sequence = 9; grandmaster = emptySlot .notice .grandmaster; steps = 0; wrflags = 0 })
+    ≡ Put 1 (freshOf 0 (record { sender = record { clock = 7; port = 2 }; sequence = 9; grandmaster = emptySlot .notice .grandmaster; steps = 0; wrflags = 0 }))
+unfolding planOf first tab refuse
+other-port = refl

@@ -1,0 +1,15 @@
+-- `is_free` meets its contract: it is the denial of `is_live`.
+use mathlib.Core.Path.{ap}
+use mathlib.Core.Bool.{not}
+use borrow.Author.Needs.{needs}
+use Rattle.senders.proofs.is_free.Statement.{statement}
+use Rattle.senders.proofs.is_free.Tie as tie
+
+is-live-requires : tie.Need-is-live-requires
+is-live-requires c κs = search needs
+
+returns : tie.Need-returns
+returns c = ap not (c .is-live .ensures)
+
+pub is-free-spec : {M : Type 1} → statement M
+is-free-spec = tie.close (tie.spec is-live-requires returns)

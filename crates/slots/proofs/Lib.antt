@@ -1,0 +1,5 @@
+pub mod Laws
+pub mod Cases
+pub mod Places
+pub mod Meaning
+pub mod Determined

@@ -1,0 +1,69 @@
+-- `plan` meets its contract: 11, then the record that the sender has, or the lowest free slot.
+use mathlib.Core.Path.{_∙_}
+use Rattle.slots.specs.Words.{portOf}
+use Rattle.slots.proofs.Cases.{slot-is, plan-backward, plan-known, plan-new}
+use borrow.Author.Needs.{needs}
+use Rattle.slots.proofs.plan.Statement.{statement}
+use Rattle.slots.proofs.plan.Tie as tie
+
+shared-slice-read-if1 : tie.Need-shared-slice-read-if1
+shared-slice-read-if1 c = search needs
+
+returns : tie.Need-returns
+returns c =
+    let g = c .before .before .before .args in
+    plan-backward (portOf (g .ws .now)) (g .t) (g .a) (c .if1 .taken)
+
+shared-slice-read-window : tie.Need-shared-slice-read-window
+shared-slice-read-window c = search needs
+
+window-requires : tie.Need-window-requires
+window-requires c κs = search needs
+
+find-requires : tie.Need-find-requires
+find-requires c κs = search needs
+
+load-requires : tie.Need-load-requires
+load-requires c κs = search needs
+
+known-requires : tie.Need-known-requires
+known-requires c κs = search needs
+
+returns-2 : tie.Need-returns-2
+returns-2 c =
+    let l = c .before in
+    let f = l .before .before in
+    let w = f .before .before in
+    let g = w .before .before .before .before .before .args in
+    let i<16 = l .before .if2 .taken in
+    plan-known (portOf (g .ws .now)) (g .t) (g .a) _ _ _ _ (w .before .before .if1 .left) (w .window .ensures) (f .find .ensures) i<16 (l .load .ensures ∙ slot-is _ _ i<16) (c .known .ensures)
+
+find-requires-2 : tie.Need-find-requires-2
+find-requires-2 c κs = search needs
+
+unknown-requires : tie.Need-unknown-requires
+unknown-requires c κs = search needs
+
+returns-3 : tie.Need-returns-3
+returns-3 c =
+    let n = c .before in
+    let f = n .before .before in
+    let w = f .before .before in
+    let g = w .before .before .before .before .before .args in
+    plan-new (portOf (g .ws .now)) (g .t) (g .a) _ _ _ _ (w .before .before .if1 .left) (w .window .ensures) (f .find .ensures) (n .before .if2 .left) (n .find2 .ensures) (c .unknown .ensures)
+
+pub plan-spec : {M : Type 1} → statement M
+plan-spec =
+    tie.close
+    (tie.spec
+    shared-slice-read-if1
+    returns
+    shared-slice-read-window
+    window-requires
+    find-requires
+    load-requires
+    known-requires
+    returns-2
+    find-requires-2
+    unknown-requires
+    returns-3)

@@ -1,0 +1,284 @@
+// The records of one port in 98 words that the host lends: the last accepted time, the interval, and sixteen records of six
+// words each (specs/Words has the layout). The fields fill their words, so any words are a port, and words of zero
+// are a port that has heard nothing.
+//
+// Taking an Announce refuses 11 (its time lies before the last accepted one), 12 and 13; asking refuses 11. Where one refuses, no word
+// changes; an Announce that is taken writes one record and the time. Reading messages, and which port's words these
+// are, is left to those above.
+ghost use mathlib.Core.Path.{_≡_};
+ghost use Prim.Native.Nat.{_<_};
+ghost use lib.ListN.{length, set};
+ghost use Rattle.senders.specs.Port.{first, planOf, outcomeOf, askedOf, candidateIn, bestOf};
+ghost use Rattle.slots.specs.Words.{ofSix, sixOf, idWord, gradeWord, slotAt, slotsOf, portOf, putSlot, wordsAfter, soughtIn, seenIn, candidateAt, outdoesIn, bestIn};
+use rank::Grandmaster;
+use rank::PortIdentity;
+use refusal::Outcome;
+use refusal::Refusal;
+use senders::Asked;
+use senders::Notice;
+use senders::Plan;
+use senders::Record;
+use senders::SLOTS;
+
+// What a slot is looked for by: the record of a sender, or a place that is empty or expired.
+pub enum Sought {
+    Of(PortIdentity),
+    Free(u64, u64),
+}
+
+// What looking into a slot shows.
+pub enum Seen {
+    Empty,
+    Held(Record),
+}
+
+// The record in a slot's six words.
+fn read(s: &[u64]) -> Record
+    requires { ⌜ length (now s) ≡ 6 ⌝ }
+    ensures { λ r. ⌜ r ≡ ofSix (now (s .entry)) ⌝ }
+{
+    let id = s[1];
+    let grade = s[5];
+    Record {
+        notice: Notice {
+            sender: PortIdentity {
+                clock: s[0],
+                port: (id % 0x10000) as u16,
+            },
+            sequence: (id / 0x10000 % 0x10000) as u16,
+            grandmaster: Grandmaster {
+                priority1: (grade / 0x100000000000000 % 0x100) as u8,
+                class: (grade / 0x1000000000000 % 0x100) as u8,
+                accuracy: (grade / 0x10000000000 % 0x100) as u8,
+                variance: (grade / 0x1000000 % 0x10000) as u16,
+                priority2: (grade / 0x10000 % 0x100) as u8,
+                identity: s[4],
+            },
+            steps: (grade % 0x10000) as u16,
+            wrflags: (id / 0x100000000 % 0x10000) as u16,
+        },
+        receipts: (id / 0x1000000000000 % 0x10000) as u16,
+        newest: s[2],
+        older: s[3],
+    }
+}
+
+// The word that tells two records of a clock apart: the sender's port, sequenceId, wrFlags, receipts.
+fn pack_id(port: u16, sequence: u16, wrflags: u16, receipts: u16) -> u64
+    ensures { λ r. ⌜ r ≡ idWord port sequence wrflags receipts ⌝ }
+{
+    port as u64
+        + 0x10000 * (sequence as u64)
+        + 0x100000000 * (wrflags as u64)
+        + 0x1000000000000 * (receipts as u64)
+}
+
+// The grandmaster's quality in the order of its keys, priority1 highest, and stepsRemoved.
+fn pack_grade(g: Grandmaster, steps: u16) -> u64
+    ensures { λ r. ⌜ r ≡ gradeWord g steps ⌝ }
+{
+    steps as u64
+        + 0x10000 * (g.priority2 as u64)
+        + 0x1000000 * (g.variance as u64)
+        + 0x10000000000 * (g.accuracy as u64)
+        + 0x1000000000000 * (g.class as u64)
+        + 0x100000000000000 * (g.priority1 as u64)
+}
+
+// Puts a record into a slot's six words.
+fn write(s: &mut [u64], r: Record)
+    requires { ⌜ length (now s) ≡ 6 ⌝ }
+    ensures { λ _. ⌜ now (s .exit) ≡ sixOf r ⌝ }
+{
+    let n = r.notice;
+    let g = n.grandmaster;
+    let x = n.sender;
+    let id = pack_id(x.port, n.sequence, n.wrflags, r.receipts);
+    let grade = pack_grade(g, n.steps);
+    s[0] = x.clock;
+    s[1] = id;
+    s[2] = r.newest;
+    s[3] = r.older;
+    s[4] = g.identity;
+    s[5] = grade;
+}
+
+// The record in slot `i`.
+fn load(ws: &[u64], i: usize) -> Record
+    requires { ⌜ (length (now ws) ≡ 98) × (i < 16) ⌝ }
+    ensures { λ r. ⌜ r ≡ slotAt (now (ws .entry)) i ⌝ }
+{
+    let b = 2 + 6 * i;
+    read(&ws[b..b + 6])
+}
+
+// Slot `i` holds the record afterwards, and no other word changes.
+fn store(ws: &mut [u64], i: usize, r: Record)
+    requires { ⌜ (length (now ws) ≡ 98) × (i < 16) ⌝ }
+    ensures { λ _. ⌜ now (ws .exit) ≡ putSlot (now (ws .entry)) i r ⌝ }
+{
+    let b = 2 + 6 * i;
+    write(&mut ws[b..b + 6], r);
+}
+
+// Whether a record is what is looked for.
+fn is_sought(r: Record, x: Sought) -> bool
+    ensures { λ b. ⌜ b ≡ soughtIn x r ⌝ }
+{
+    match x {
+        Sought::Of(sender) => senders::is_of(r, sender),
+        Sought::Free(w, t) => senders::is_free(r, w, t),
+    }
+}
+
+// The lowest slot whose record is what is looked for, or 16.
+fn find(ws: &[u64], x: Sought) -> usize
+    requires { ⌜ length (now ws) ≡ 98 ⌝ }
+    ensures { λ r. ⌜ r ≡ first (soughtIn x) (slotsOf (now (ws .entry))) ⌝ }
+{
+    let mut i = 0;
+    while i < SLOTS {
+        if is_sought(load(ws, i), x) {
+            return i;
+        }
+        i += 1;
+    }
+    i
+}
+
+// What an Announce at `t` is to do.
+fn plan(ws: &[u64], t: u64, a: Notice) -> Plan
+    requires { ⌜ length (now ws) ≡ 98 ⌝ }
+    ensures { λ p. ⌜ p ≡ planOf (portOf (now (ws .entry))) t a ⌝ }
+{
+    if t < ws[0] {
+        return Plan::Refuse(Refusal::Backward);
+    }
+    let w = senders::window(ws[1]);
+    let sender = a.sender;
+    let i = find(ws, Sought::Of(sender));
+    if i < SLOTS {
+        return senders::known(load(ws, i), i, w, t, a);
+    }
+    senders::unknown(find(ws, Sought::Free(w, t)), t, a)
+}
+
+// Takes an Announce at `t`, or refuses it.
+pub fn take(ws: &mut [u64], t: u64, a: Notice) -> Outcome
+    requires { ⌜ length (now ws) ≡ 98 ⌝ }
+    ensures { λ r. ⌜ (r ≡ outcomeOf (planOf (portOf (now (ws .entry))) t a)) × (now (ws .exit) ≡ wordsAfter (now (ws .entry)) t (planOf (portOf (now (ws .entry))) t a)) ⌝ }
+{
+    let p = plan(ws, t, a);
+    match p {
+        Plan::Refuse(x) => Outcome::Refused(x),
+        Plan::Put(i, r) => {
+            store(ws, i, r);
+            ws[0] = t;
+            Outcome::Done
+        }
+    }
+}
+
+// What slot `i` holds.
+pub fn slot(ws: &[u64], i: usize) -> Seen
+    requires { ⌜ length (now ws) ≡ 98 ⌝ }
+    ensures { λ r. ⌜ r ≡ seenIn (portOf (now (ws .entry))) i ⌝ }
+{
+    if i < SLOTS {
+        let r = load(ws, i);
+        if r.receipts != 0 {
+            return Seen::Held(r);
+        }
+    }
+    Seen::Empty
+}
+
+// The candidate in slot `i` at `t`; `port` is the port that keeps it.
+pub fn candidate(ws: &[u64], port: u8, i: usize, t: u64) -> Asked
+    requires { ⌜ length (now ws) ≡ 98 ⌝ }
+    ensures { λ r. ⌜ r ≡ askedOf (portOf (now (ws .entry))) t (candidateIn port (portOf (now (ws .entry))) i t) ⌝ }
+{
+    if t < ws[0] {
+        return Asked::Refused(Refusal::Backward);
+    }
+    let w = senders::window(ws[1]);
+    if i < SLOTS {
+        let r = load(ws, i);
+        if senders::is_qualified(r, w, t) {
+            return Asked::Found(senders::candidate(r, port));
+        }
+    }
+    Asked::Absent
+}
+
+// Whether the record in slot `i` is qualified and stands before that in slot `b`, where `b` is one.
+fn outdoes(ws: &[u64], port: u8, i: usize, b: usize, w: u64, t: u64) -> bool
+    requires { ⌜ (length (now ws) ≡ 98) × (i < 16) ⌝ }
+    ensures { λ r. ⌜ r ≡ outdoesIn port (now (ws .entry)) i b w t ⌝ }
+{
+    let r = load(ws, i);
+    if !senders::is_qualified(r, w, t) {
+        return false;
+    }
+    if b < SLOTS {
+        let c = senders::candidate(r, port);
+        let d = senders::candidate(load(ws, b), port);
+        return rank::earlier(c, d);
+    }
+    true
+}
+
+// The slot of the best candidate at `t`, or 16; from the last slot to the first.
+fn best_slot(ws: &[u64], port: u8, w: u64, t: u64) -> usize
+    requires { ⌜ length (now ws) ≡ 98 ⌝ }
+    ensures { λ r. ⌜ candidateAt port (now (ws .entry)) r ≡ bestIn port w t (slotsOf (now (ws .entry))) ⌝ }
+{
+    let mut b = SLOTS;
+    let mut i = SLOTS;
+    while 0 < i {
+        i -= 1;
+        if outdoes(ws, port, i, b, w, t) {
+            b = i;
+        }
+    }
+    b
+}
+
+// The best candidate at `t`.
+pub fn best(ws: &[u64], port: u8, t: u64) -> Asked
+    requires { ⌜ length (now ws) ≡ 98 ⌝ }
+    ensures { λ r. ⌜ r ≡ askedOf (portOf (now (ws .entry))) t (bestOf port (portOf (now (ws .entry))) t) ⌝ }
+{
+    if t < ws[0] {
+        return Asked::Refused(Refusal::Backward);
+    }
+    let b = best_slot(ws, port, senders::window(ws[1]), t);
+    if b < SLOTS {
+        return Asked::Found(senders::candidate(load(ws, b), port));
+    }
+    Asked::Absent
+}
+
+// The last accepted time.
+pub fn last(ws: &[u64]) -> u64
+    requires { ⌜ length (now ws) ≡ 98 ⌝ }
+    ensures { λ r. ⌜ r ≡ portOf (now (ws .entry)) .last ⌝ }
+{
+    ws[0]
+}
+
+// The interval's exponent modulo 8, as it was set.
+pub fn exponent(ws: &[u64]) -> u64
+    requires { ⌜ length (now ws) ≡ 98 ⌝ }
+    ensures { λ r. ⌜ r ≡ portOf (now (ws .entry)) .e ⌝ }
+{
+    ws[1]
+}
+
+// Sets the interval's exponent, modulo 8.
+pub fn set_exponent(ws: &mut [u64], e: u64)
+    requires { ⌜ length (now ws) ≡ 98 ⌝ }
+    ensures { λ _. ⌜ now (ws .exit) ≡ set (now (ws .entry)) 1 e ⌝ }
+{
+    ws[1] = e;
+}
