@@ -4,7 +4,6 @@
 use libc::STDIN_FILENO;
 use libc::STDOUT_FILENO;
 
-mod reading;
 mod settings;
 
 use settings::Settings;
@@ -21,7 +20,11 @@ struct World {
 
 // The answer to a call; the same place where the line is none.
 fn call(line: &[u8], set: Settings, room: &mut [u8], out: &mut [u8], at: usize) -> usize {
-    reading::answer(line, set.magic, room, out, at)
+    let to = reading_calls::answer(line, set.magic, room, out, at);
+    if to != at {
+        return to;
+    }
+    delay_calls::answer(line, out, at)
 }
 
 // The answer to a line that is neither empty nor a comment.
