@@ -1,5 +1,6 @@
 // An answer, put together in a lent buffer. Each function appends at a place and hands back the next place; what finds
 // no room is left out.
+use refusal::Refusal;
 
 pub fn put(out: &mut [u8], at: usize, c: u8) -> usize {
     if at < out.len() {
@@ -34,6 +35,12 @@ pub fn numbers(out: &mut [u8], at: usize, values: &[u64]) -> usize {
         i += 1;
     }
     to
+}
+
+// A refusal, by its number.
+pub fn refused(out: &mut [u8], at: usize, x: Refusal) -> usize {
+    let to = text(out, at, b"refused");
+    number(out, to, refusal::number(x) as u64)
 }
 
 // The digits of a number, the first first.

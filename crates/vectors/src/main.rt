@@ -4,7 +4,6 @@
 use libc::STDIN_FILENO;
 use libc::STDOUT_FILENO;
 
-mod reading;
 mod settings;
 
 use settings::Settings;
@@ -12,20 +11,47 @@ use settings::Settings;
 // A line may have this many characters.
 const LONGEST: usize = 300_000;
 
-// Where the program stands: what was set, how much of a line has come, and how much of the answers waits to be written.
+// Where the program stands, but for the links: what was set, how much of a line has come, and how much of the answers waits to be written.
 struct World {
     settings: Settings,
     length: usize,
     waiting: usize,
 }
 
+// The answer to a call that reads or computes; the same place where the line is none.
+fn stateless(line: &[u8], set: Settings, room: &mut [u8], out: &mut [u8], at: usize) -> usize {
+    let to = reading_calls::answer(line, set.magic, room, out, at);
+    if to != at {
+        return to;
+    }
+    delay_calls::answer(line, out, at)
+}
+
 // The answer to a call; the same place where the line is none.
-fn call(line: &[u8], set: Settings, room: &mut [u8], out: &mut [u8], at: usize) -> usize {
-    reading::answer(line, set.magic, room, out, at)
+fn call(
+    line: &[u8],
+    set: Settings,
+    links: &mut [u64; 72],
+    room: &mut [u8],
+    out: &mut [u8],
+    at: usize,
+) -> usize {
+    let to = link_calls::answer(line, links, out, at);
+    if to != at {
+        return to;
+    }
+    stateless(line, set, room, out, at)
+}
+
+// What a line that sets something does to the links: a fresh clock has fresh ones.
+fn links_after(line: &[u8], links: &mut [u64; 72]) {
+    if lines::args::is_call(line, b"fresh") {
+        link_calls::reset(links);
+    }
 }
 
 // The answer to a line that is neither empty nor a comment.
-fn respond(line: &[u8], w: World, room: &mut [u8], out: &mut [u8]) -> World {
+fn respond(line: &[u8], w: World, links: &mut [u64; 72], room: &mut [u8], out: &mut [u8]) -> World {
     let at = w.waiting;
     let was = w.settings;
     if LONGEST < line.len() {
@@ -38,13 +64,14 @@ fn respond(line: &[u8], w: World, room: &mut [u8], out: &mut [u8]) -> World {
     let changed = settings::after(line, was);
     let set = changed.settings;
     if changed.done {
+        links_after(line, links);
         return World {
             settings: set,
             length: 0,
             waiting: lines::answer::text(out, at, b"ok\n"),
         };
     }
-    let to = call(line, set, room, out, at);
+    let to = call(line, set, links, room, out, at);
     if to == at {
         return World {
             settings: set,
@@ -68,7 +95,13 @@ fn is_silent(line: &[u8]) -> bool {
 }
 
 // A line has ended: its answer, written out once much has gathered.
-fn line_ended(line: &[u8], w: World, room: &mut [u8], out: &mut [u8]) -> World {
+fn line_ended(
+    line: &[u8],
+    w: World,
+    links: &mut [u64; 72],
+    room: &mut [u8],
+    out: &mut [u8],
+) -> World {
     if is_silent(line) {
         let set = w.settings;
         return World {
@@ -77,7 +110,7 @@ fn line_ended(line: &[u8], w: World, room: &mut [u8], out: &mut [u8]) -> World {
             waiting: w.waiting,
         };
     }
-    let next = respond(line, w, room, out);
+    let next = respond(line, w, links, room, out);
     written(next, out)
 }
 
@@ -97,10 +130,17 @@ fn written(w: World, out: &[u8]) -> World {
 }
 
 // One character more of the line, or its end. A line that is too long keeps one character more than it may have.
-fn character(c: u8, w: World, line: &mut [u8], room: &mut [u8], out: &mut [u8]) -> World {
+fn character(
+    c: u8,
+    w: World,
+    line: &mut [u8],
+    links: &mut [u64; 72],
+    room: &mut [u8],
+    out: &mut [u8],
+) -> World {
     let length = w.length;
     if c == b'\n' {
-        return line_ended(lines::args::front(line, length), w, room, out);
+        return line_ended(lines::args::front(line, length), w, links, room, out);
     }
     let set = w.settings;
     World {
@@ -114,13 +154,14 @@ fn characters(
     chunk: &[u8],
     from: World,
     line: &mut [u8],
+    links: &mut [u64; 72],
     room: &mut [u8],
     out: &mut [u8],
 ) -> World {
     let mut w = from;
     let mut i: usize = 0;
     while i < chunk.len() {
-        w = character(chunk[i], w, line, room, out);
+        w = character(chunk[i], w, line, links, room, out);
         i += 1;
     }
     w
@@ -132,18 +173,32 @@ struct Came {
     more: bool,
 }
 
-fn some(w: World, chunk: &mut [u8], line: &mut [u8], room: &mut [u8], out: &mut [u8]) -> Came {
+fn some(
+    w: World,
+    chunk: &mut [u8],
+    line: &mut [u8],
+    links: &mut [u64; 72],
+    room: &mut [u8],
+    out: &mut [u8],
+) -> Came {
     let got = libc::read(STDIN_FILENO, chunk);
     let n = io::count(got, chunk);
     Came {
-        world: characters(lines::args::front(chunk, n), w, line, room, out),
+        world: characters(lines::args::front(chunk, n), w, line, links, room, out),
         more: 0 < n,
     }
 }
 
 // A proved loop has to end, and nothing says that an input does: the turns are counted down from a number that no run
 // uses up.
-fn all(w: World, chunk: &mut [u8], line: &mut [u8], room: &mut [u8], out: &mut [u8]) -> World {
+fn all(
+    w: World,
+    chunk: &mut [u8],
+    line: &mut [u8],
+    links: &mut [u64; 72],
+    room: &mut [u8],
+    out: &mut [u8],
+) -> World {
     let mut turns = u64::MAX;
     let mut s = Came {
         world: w,
@@ -151,7 +206,7 @@ fn all(w: World, chunk: &mut [u8], line: &mut [u8], room: &mut [u8], out: &mut [
     };
     while turns > 0 && s.more {
         let from = s.world;
-        s = some(from, chunk, line, room, out);
+        s = some(from, chunk, line, links, room, out);
         turns -= 1;
     }
     s.world
@@ -160,6 +215,7 @@ fn all(w: World, chunk: &mut [u8], line: &mut [u8], room: &mut [u8], out: &mut [
 fn main() {
     let mut chunk = [0u8; 65536];
     let mut line = [0u8; LONGEST + 1];
+    let mut links = [0u64; 72];
     let mut room = [0u8; 150_017];
     let mut out = [0u8; 262_144];
     let w = World {
@@ -167,9 +223,15 @@ fn main() {
         length: 0,
         waiting: 0,
     };
-    let end = all(w, &mut chunk, &mut line, &mut room, &mut out);
+    let end = all(w, &mut chunk, &mut line, &mut links, &mut room, &mut out);
     let length = end.length;
-    let last = line_ended(lines::args::front(&line, length), end, &mut room, &mut out);
+    let last = line_ended(
+        lines::args::front(&line, length),
+        end,
+        &mut links,
+        &mut room,
+        &mut out,
+    );
     let waiting = last.waiting;
     io::write_all(STDOUT_FILENO, lines::args::front(&out, waiting));
 }

@@ -1,4 +1,5 @@
-// The calls that read a message: read, lookup, suffix, linkmessage.
+// The calls of a line that read a message: read, lookup, suffix, linkmessage. The octets come from the line into a
+// buffer that is lent; a line that is none of these calls, or malformed, gets no answer here.
 use lines::answer;
 use lines::args;
 use message::fields::Announce;
@@ -12,13 +13,7 @@ use message::parts::LinkRead;
 use message::parts::SuffixRead;
 use message::parts::TlvRead;
 use message::reading::Reading;
-use refusal::Refusal;
 use tlv::wr::LinkMessage;
-
-pub fn refused(out: &mut [u8], at: usize, x: Refusal) -> usize {
-    let to = answer::text(out, at, b"refused");
-    answer::number(out, to, refusal::number(x) as u64)
-}
 
 fn identity(out: &mut [u8], at: usize, i: PortIdentity) -> usize {
     let to = answer::clock(out, at, i.clock);
@@ -106,7 +101,7 @@ fn whole(out: &mut [u8], at: usize, m: Message, tail: &[u8]) -> usize {
 
 fn read(out: &mut [u8], at: usize, s: &[u8], magic: u16) -> usize {
     match message::reading::read(s, magic) {
-        Reading::Refused(x) => refused(out, at, x),
+        Reading::Refused(x) => answer::refused(out, at, x),
         Reading::Whole(m) => whole(out, at, m, message::parts::tail(s, magic)),
     }
 }
@@ -122,7 +117,7 @@ fn read_call(line: &[u8], magic: u16, room: &mut [u8], out: &mut [u8], at: usize
 
 fn lookup(out: &mut [u8], at: usize, s: &[u8], kind: u16, magic: u16) -> usize {
     match message::parts::looked_up(s, kind, magic) {
-        TlvRead::Refused(x) => refused(out, at, x),
+        TlvRead::Refused(x) => answer::refused(out, at, x),
         TlvRead::Absent => answer::text(out, at, b"absent"),
         TlvRead::Found(place) => {
             let to = answer::text(out, at, b"found");
@@ -145,7 +140,7 @@ fn lookup_call(line: &[u8], magic: u16, room: &mut [u8], out: &mut [u8], at: usi
 
 fn suffix(out: &mut [u8], at: usize, s: &[u8], magic: u16) -> usize {
     match message::parts::suffix(s, magic) {
-        SuffixRead::Refused(x) => refused(out, at, x),
+        SuffixRead::Refused(x) => answer::refused(out, at, x),
         SuffixRead::Absent => answer::text(out, at, b"absent"),
         SuffixRead::Flags(flags) => {
             let to = answer::text(out, at, b"found");
@@ -196,7 +191,7 @@ pub fn link(out: &mut [u8], at: usize, m: LinkMessage) -> usize {
 
 fn link_message(out: &mut [u8], at: usize, s: &[u8], magic: u16) -> usize {
     match message::parts::link_message(s, magic) {
-        LinkRead::Refused(x) => refused(out, at, x),
+        LinkRead::Refused(x) => answer::refused(out, at, x),
         LinkRead::Absent => answer::text(out, at, b"absent"),
         LinkRead::Message(m) => {
             let to = answer::text(out, at, b"found");
