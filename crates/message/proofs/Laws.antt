@@ -51,16 +51,12 @@ pub size-most : (kind : ℕ) → fixedSize kind ≤ 64
 unfolding fixedSize
 size-most kind = most-by (eqb kind 0x0) (eqb kind 0x1) (eqb kind 0x8) (eqb kind 0x9) (eqb kind 0xB) (eqb kind 0xC)
 
-<<<<<<< HEAD
 -- nothing is wrong with no tail
 pub no-tail : (magic : ℕ) → tailCheck magic [] ≡ Done
 unfolding tailCheck refuse walk walkBy
 no-tail magic = refl
 
-no-refusal : (x : Refusal) → Refused x ≡ Done → ⊥
-=======
 pub no-refusal : (x : Refusal) → Refused x ≡ Done → ⊥
->>>>>>> 7cf771b13e0fc334f16f9e38421862d09ee52459
 no-refusal x e = let z : _≡_ {A = ℕ} 0 1 = cc in omega arith
 
 -- all the checks are passed
