@@ -3,6 +3,7 @@
 // lines apart and puts answers together.
 use libc::STDIN_FILENO;
 use libc::STDOUT_FILENO;
+use rank::Grandmaster;
 
 mod settings;
 
@@ -11,11 +12,34 @@ use settings::Settings;
 // A line may have this many characters.
 const LONGEST: usize = 300_000;
 
-// Where the program stands, but for the links: what was set, how much of a line has come, and how much of the answers waits to be written.
+// Where the program stands, but for the links: what was set, how much of a line has come, and how much of the answers
+// waits to be written.
 struct World {
     settings: Settings,
     length: usize,
     waiting: usize,
+}
+
+// Our own clock as a grandmaster.
+fn own_grandmaster(set: Settings) -> Grandmaster {
+    let own = set.own;
+    Grandmaster {
+        priority1: own.priority1,
+        class: own.class,
+        accuracy: own.accuracy,
+        variance: own.variance,
+        priority2: own.priority2,
+        identity: set.clock,
+    }
+}
+
+// The answer to a call that computes; the same place where the line is none.
+fn computed(line: &[u8], set: Settings, out: &mut [u8], at: usize) -> usize {
+    let to = delay_calls::answer(line, out, at);
+    if to != at {
+        return to;
+    }
+    ranking_calls::answer(line, own_grandmaster(set), out, at)
 }
 
 // The answer to a call that reads or computes; the same place where the line is none.
@@ -24,7 +48,7 @@ fn stateless(line: &[u8], set: Settings, room: &mut [u8], out: &mut [u8], at: us
     if to != at {
         return to;
     }
-    delay_calls::answer(line, out, at)
+    computed(line, set, out, at)
 }
 
 // The answer to a call; the same place where the line is none.
