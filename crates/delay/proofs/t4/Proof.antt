@@ -1,0 +1,43 @@
+-- `t4` meets its contract: the correction, raised by 2^47, is taken off 3 * 2^47.
+use Prim.Native.Nat.{_^_}
+use native.Mathlib.Omega.{arith}
+use lib.IntN.{pos}
+use Rattle.signed.proofs.Parts.{raised-of, sub-law}
+use Rattle.delay.specs.Delay.{coarse, t4}
+use Rattle.delay.proofs.Laws.{raised-is}
+use borrow.Author.Needs.{needs}
+use Rattle.delay.proofs.t4.Statement.{statement}
+use Rattle.delay.proofs.t4.Tie as tie
+
+cast-part : tie.Need-cast-part
+cast-part c = search needs
+
+mul-part : tie.Need-mul-part
+mul-part c = search needs
+
+add-part : tie.Need-add-part
+add-part c = search needs
+
+add-part-2 : tie.Need-add-part-2
+add-part-2 c = search needs
+
+raised-requires : tie.Need-raised-requires
+raised-requires c κs = search needs
+
+sub-part : tie.Need-sub-part
+sub-part c =
+    let b = c .before .before .before .before in
+    let s = raised-is (b .args .x .corrections .resp .0) (c .raised .result) (b .pre .corrections .resp) (c .raised .ensures) in
+    omega arith
+
+returns : tie.Need-returns
+unfolding t4
+returns c =
+    let b = c .before .before .before .before in
+    let x = b .args .x in
+    let s = raised-is (x .corrections .resp .0) (c .raised .result) (b .pre .corrections .resp) (c .raised .ensures) in
+    let l = sub-law (pos (coarse (x .stamps .t4))) (x .corrections .resp .0) in
+    record { is = raised-of (t4 x) (2 ^ 48) _ (omega arith); fair = omega arith }
+
+pub t4-spec : {M : Type 1} → statement M
+t4-spec = tie.close (tie.spec cast-part mul-part add-part add-part-2 raised-requires sub-part returns)

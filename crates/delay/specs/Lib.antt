@@ -1,0 +1,4 @@
+pub mod Delay
+pub mod Range
+pub mod Answer
+pub mod Inside
