@@ -1,18 +1,33 @@
-/* Calls one function N times on one message and ends: what is counted. No library, so that nothing else runs.
-   -DCALL=function, -DN=times, -DSUFFIX for the message with the White Rabbit suffix. */
+/* Calls one function N times and ends: what is counted. No library, so that nothing else runs. -DCALL=function, -DN=times;
+   -DREAD for a message, with -DSUFFIX the one with the White Rabbit suffix; -DDELAY for an exchange; -DLINK for a message to a link. */
 #include <stddef.h>
 #include <stdint.h>
 
-uint64_t CALL(const uint8_t *s, size_t n, uint16_t magic);
+#if defined(READ)
+#define TAKES const uint8_t *s, size_t n, uint16_t magic
+#define HANDS message, length, 0xABCD
+#elif defined(DELAY)
+#define TAKES const uint64_t *s
+#define HANDS exchange
+#else
+#define TAKES uint64_t *s, uint8_t port, uint16_t number
+#define HANDS words, 7, 0x1001
+#endif
+
+uint64_t CALL(TAKES);
 
 #ifdef EMPTY
-uint64_t __attribute__((noinline)) CALL(const uint8_t *s, size_t n, uint16_t magic)
+uint64_t __attribute__((noinline)) CALL(TAKES)
 {
-    __asm__ volatile("" : : "r"(s), "r"(n), "r"((uint32_t)magic) : "memory");
+    __asm__ volatile("" : : "r"(s) : "memory");
     return 1000;
 }
 #endif
 
+/* Eighteen fresh links: the one of port 7 is told LOCK and ignores it. */
+static uint64_t words[72];
+static uint64_t exchange[18] = {1700000000, 123456789, 1 << 20, 3 << 18, 1700000000, 123999999, 4660, 1700000000, 500000000, 22136, 1700000000, 500500500, 1 << 19,
+    230000000000, 240000000000, 250000000000, 260000000000, 1 << 20};
 static uint8_t message[78] = {
     0x0b, 0x02, 0x00, 64, 0, 0, 0, 0, 0, 0, 0, 0, 0, 0, 0, 0, 0, 0, 0, 0, 0x00, 0x11, 0x22, 0xff, 0xfe, 0x33, 0x44, 0x55, 0, 1, 0, 7, 5, 0,
     0, 0, 0x65, 0x53, 0xf1, 0x00, 0x07, 0x5b, 0xcd, 0x15, 0, 37, 0, 128, 6, 0x21, 0x4e, 0x5d, 128, 0x00, 0x11, 0x22, 0xff, 0xfe, 0x33, 0x44, 0x55,
@@ -21,14 +36,14 @@ static uint8_t message[78] = {
 
 void __attribute__((noreturn)) _start(void)
 {
-    size_t n = 64;
+    size_t length = 64;
     uint64_t sum = 0;
 #ifdef SUFFIX
-    message[3] = n = 78;
+    message[3] = length = 78;
 #endif
     for (long i = 0; i < N; i++) {
-        __asm__ volatile("" : : "r"(message) : "memory");
-        sum += CALL(message, n, 0xABCD);
+        __asm__ volatile("" : : "r"(message), "r"(exchange), "r"(words) : "memory");
+        sum += CALL(HANDS);
     }
-    for (;;) __asm__ volatile("syscall" : : "a"(60L), "D"(sum < N ? 1L : 0L) : "rcx", "r11", "memory");
+    for (;;) __asm__ volatile("syscall" : : "a"(60L), "D"(sum == 1 ? 1L : 0L), "r"(length) : "rcx", "r11", "memory");
 }
