@@ -2,3 +2,4 @@ pub mod Words
 pub mod Intake
 pub mod Interval
 pub mod Asking
+pub mod History

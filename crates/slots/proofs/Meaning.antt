@@ -1,5 +1,6 @@
 -- What the words mean: a record that was written is read back, and the words after a plan are the port after it.
 use mathlib.Core.Path.{_≡_, refl, ap, sym, _∙_}
+use mathlib.Core.Bool.{Bool, true, false, not}
 use mathlib.Core.List.{List, [], _∷_}
 use mathlib.Core.Logic.{⊎-elim, _⊎_, inl, inr}
 use Prim.Native.Nat.{ℕ, _+_, _*_, _/_, _%_, _≤_, _<_}
@@ -12,8 +13,8 @@ use Rattle.senders.specs.declared.Notice.{Notice}
 use Rattle.senders.specs.declared.Record.{Record}
 use Rattle.senders.specs.declared.Plan.{Plan}
 use Rattle.senders.specs.declared.Plan.the-variants.{Refuse, Put}
-use Rattle.senders.specs.Record.{freshOf, nextOf}
-use Rattle.senders.specs.Port.{Port, slotOf, portAfter, planOf}
+use Rattle.senders.specs.Record.{windowOf, isOf, isFree, freshOf, nextOf}
+use Rattle.senders.specs.Port.{Port, slotOf, portAfter, planOf, Live}
 use Rattle.senders.proofs.Intake.{plan-cases}
 use Rattle.slots.specs.Words.{idWord, gradeWord, recordOf, wordsOf, slotAt, slotsOf, portOf, putSlot, wordsAfter, Small}
 use Rattle.slots.proofs.Laws.{length-splice, block-same, block-before, block-after, getD-before, set-tab, tab-ext, length-tab}
@@ -154,6 +155,13 @@ module _ (ws : List ℕ) (t : ℕ) (a : Notice) (n : length ws ≡ 98) where
   size : length (portOf ws .slots) ≡ 16
   size = length-tab 16 (slotAt ws)
 
+  -- a slot that passes a test is not one that fails it
+  apart : (k i : ℕ) (f : Record → Bool) → f (slotOf (portOf ws) k) ≡ true → f (slotOf (portOf ws) i) ≡ false → i ≡ k → ⊥
+  apart k i f hit miss e =
+      let m : f (slotOf (portOf ws) k) ≡ false = rw e at miss in
+      let z : _≡_ {A = ℕ} 0 1 = cc in
+      omega arith
+
   -- THE WORDS AFTER AN ANNOUNCE ARE THE PORT AFTER IT
   pub means : Fitting a → portOf (wordsAfter ws t (planOf (portOf ws) t a)) ≡ portAfter (portOf ws) t (planOf (portOf ws) t a)
   means small =
@@ -164,6 +172,20 @@ module _ (ws : List ℕ) (t : ℕ) (a : Notice) (n : length ws ≡ 98) where
         stale = λ i l h o v f. refl;
         restarted = λ i l h o v. put-means ws t i _ n h (small-fresh t a small);
         placed = λ j l f h v b. put-means ws t j _ n h (small-fresh t a small);
+        full = λ l f v. refl;
+      })
+
+  -- NOBODY IS PUSHED OUT, word for word
+  pub keeps-slot : (i : ℕ) → i < 16 → isOf (a .sender) (slotOf (portOf ws) i) ≡ false → Live (portOf ws) t i
+      → slotAt (wordsAfter ws t (planOf (portOf ws) t a)) i ≡ slotAt ws i
+  keeps-slot i g other live =
+      plan-cases (portOf ws) t a size (λ q. slotAt (wordsAfter ws t q) i ≡ slotAt ws i)
+      (record {
+        backward = λ l. refl;
+        renewed = λ k l h o v f. slot-other ws t k _ n h i (apart k i (isOf (a .sender)) o other) g;
+        stale = λ k l h o v f. refl;
+        restarted = λ k l h o v. slot-other ws t k _ n h i (apart k i (isOf (a .sender)) o other) g;
+        placed = λ j l f h v b. slot-other ws t j _ n h i (apart j i (isFree (windowOf (portOf ws .e)) t) (ap not v) (ap not live)) g;
         full = λ l f v. refl;
       })
 
