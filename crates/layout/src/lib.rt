@@ -19,6 +19,7 @@ use message::fields::SIGNALING;
 use message::fields::SYNC;
 use message::fields::Timestamp;
 
+// versionPTP.
 const VERSION: u8 = 2;
 
 // What stands in each octet of a reserved field.
@@ -52,6 +53,7 @@ fn control_of(b: Body) -> u8
     }
 }
 
+// A port of a clock, ten octets.
 fn identity_octets(p: PortIdentity) -> [u8; 10]
     ensures { λ r. ⌜ r ≡ identityOctets p [] ⌝ }
 {
@@ -60,6 +62,7 @@ fn identity_octets(p: PortIdentity) -> [u8; 10]
     [c[0], c[1], c[2], c[3], c[4], c[5], c[6], c[7], n[0], n[1]]
 }
 
+// A timestamp, ten octets.
 fn stamp_octets(t: Timestamp) -> [u8; 10]
     ensures { λ r. ⌜ r ≡ stampOctets t [] ⌝ }
 {

@@ -1,4 +1,8 @@
 // A message and its tail, checked and written.
+//
+// 18 comes first: transportSpecific of 16 or more, a timestamp with seconds of 2^48 or more or nanoseconds of 10^9 or more,
+// a length past 65,535, a tail that reading would refuse with 6 or 7 under the set magic. Then 16. A message is of a listed
+// type by its variant; `check_type` is for a caller that has a bare type number.
 ghost use mathlib.Core.Path.{_≡_};
 ghost use Rattle.writer.specs.Writing.{stampFits, bodyFits, typeCheck, writeCheck, writeOf, bufferOf};
 use message::fields::Body;
@@ -20,6 +24,7 @@ fn stamp_fits(t: Timestamp) -> bool
     (t.seconds < 0x1_0000_0000_0000) & (t.nanoseconds < 1_000_000_000)
 }
 
+// The same of a message, by its type; a Signaling has no timestamp.
 fn body_fits(b: Body) -> bool
     ensures { λ r. ⌜ r ≡ bodyFits b ⌝ }
 {
