@@ -1,3 +1,4 @@
 pub mod Laws
 pub mod Part
 pub mod Determined
+pub mod Edges
