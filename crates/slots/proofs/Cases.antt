@@ -17,12 +17,11 @@ use Rattle.rank.specs.Ranked as ranked
 use Rattle.senders.specs.declared.Notice.{Notice}
 use Rattle.senders.specs.declared.Record.{Record}
 use Rattle.senders.specs.declared.Plan.{Plan}
-use Rattle.senders.specs.declared.Plan.the-variants.{Refuse, Put}
+use Rattle.senders.specs.declared.Plan.the-variants.{Refuse}
 use Rattle.senders.specs.declared.Asked.{Asked}
 use Rattle.senders.specs.declared.Asked.the-variants.{Refused, Absent, Found}
 use Rattle.senders.specs.Record.{windowOf, isOf, isFree, isQualified, candidateOf}
 use Rattle.senders.specs.Port.{Port, emptySlot, slotOf, tab, first, kept, knownOf, newOf, planOf, askedOf, candidateIn, candidatesOf, bestOf, headOf}
-use Rattle.slots.specs.declared.Seen.{Seen}
 use Rattle.slots.specs.declared.Seen.the-variants.{Empty, Held}
 use Rattle.slots.specs.Words.{recordOf, slotAt, slotsOf, portOf, seenIn, candidateAt, aheadIn, outdoesIn, bestIn}
 use Rattle.slots.proofs.Laws.{length-tab, getD-tab, getD-past}

@@ -3,7 +3,7 @@ use mathlib.Core.Path.{_≡_, refl, sym, ap, _∙_}
 use mathlib.Core.Bool.{Bool, true, false}
 use mathlib.Core.List.{List}
 use mathlib.Core.Logic.{⊎-elim}
-use Prim.Native.Nat.{ℕ, _/_, _%_, _<_, _≤_}
+use Prim.Native.Nat.{ℕ, _/_, _%_, _<_}
 use native.Mathlib.Omega.{arith}
 use lib.Dec.{eqb, ltb}
 use lib.ListN.{getD}
@@ -11,7 +11,7 @@ use borrow.Author.Tests.{eqb-true, eqb-false, eq-eqb, ne-eqb, lt-ltb, le-ltb}
 use Rattle.refusal.specs.Choice.{pick}
 use Rattle.rank.specs.Order.{earlierOf}
 use Rattle.senders.specs.Record.{candidateOf}
-use Rattle.slots.specs.Words.{ofSix, laterIn, beforeIn}
+use Rattle.slots.specs.Words.{ofSix, beforeIn}
 use Rattle.slots.proofs.Meaning.{ne-split}
 
 -- one key: equal, lower or higher

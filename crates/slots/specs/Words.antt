@@ -10,7 +10,6 @@ use Rattle.rank.specs.declared.Grandmaster.{Grandmaster}
 use Rattle.rank.specs.Order.{earlierOf}
 use Rattle.rank.specs.Best.{best}
 use Rattle.rank.specs.Ranked as ranked
-use Rattle.senders.specs.declared.Notice.{Notice}
 use Rattle.senders.specs.declared.Record.{Record}
 use Rattle.senders.specs.declared.Plan.{Plan}
 use Rattle.senders.specs.declared.Plan.the-variants.{Refuse, Put}
