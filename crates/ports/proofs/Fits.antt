@@ -1,12 +1,11 @@
 -- What is kept of an Announce fits its words: octets make numbers of their widths.
-use mathlib.Core.Path.{_≡_, refl, sym, ap, subst, _∙_}
+use mathlib.Core.Path.{_≡_, refl, subst}
 use mathlib.Core.Bool.{Bool, true, false, not}
 use mathlib.Core.List.{List}
-use Prim.Native.Nat.{ℕ, _+_, _%_, _<_}
+use Prim.Native.Nat.{ℕ, _+_, _<_}
 use native.Mathlib.Omega.{arith}
 use lib.Dec.{eqb, ltb}
 use lib.ListN.{length}
-use Rattle.octets.specs.Be.{be}
 use Rattle.octets.proofs.Laws.{Octets, be-bound}
 use Rattle.refusal.specs.Choice.{pick, refuse}
 use Rattle.refusal.specs.declared.Refusal.{Refusal}
@@ -28,7 +27,6 @@ use Rattle.message.specs.declared.announce.Heard.{Heard}
 use Rattle.senders.specs.declared.Notice as kept
 use Rattle.slots.proofs.Meaning.{Fitting}
 use Rattle.ports.specs.declared.intake.Settings.{Settings}
-use Rattle.ports.specs.declared.intake.Admitted.{Admitted}
 use Rattle.ports.specs.declared.intake.Admitted.the-variants.{Refused, Notice}
 use Rattle.ports.specs.Intake.{noticeOf, judgedOf, admittedBy, admittedOf}
 

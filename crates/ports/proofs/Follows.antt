@@ -12,12 +12,11 @@ use lib.ListN.{length, set, length-set, length-take, length-drop}
 use borrow.Author.Tests.{eqb-true, eqb-false}
 use Rattle.refusal.specs.Choice.{pick, refuse}
 use Rattle.refusal.specs.declared.Refusal.{Refusal}
-use Rattle.refusal.specs.declared.Refusal.the-variants.{Port}
+use Rattle.refusal.specs.declared.Refusal.the-variants.{Port, Field}
 use Rattle.rank.specs.Ranked.{isPort}
 use Rattle.senders.specs.declared.Plan.{Plan}
 use Rattle.senders.specs.declared.Plan.the-variants.{Refuse, Put}
 use Rattle.senders.specs.Port.{outcomeOf}
-use Rattle.refusal.specs.declared.Outcome.{Outcome}
 use Rattle.refusal.specs.declared.Outcome.the-variants as outcome
 use Rattle.slots.specs.Words.{portOf, wordsAfter}
 use Rattle.slots.proofs.Laws.{length-splice, block-same, block-before, block-after}
@@ -27,8 +26,8 @@ use Rattle.ports.specs.declared.intake.Admitted.{Admitted}
 use Rattle.ports.specs.declared.intake.Admitted.the-variants.{Refused, Notice}
 use Rattle.ports.specs.Words.{own, with, portAt}
 use Rattle.ports.specs.Intake.{admittedOf, planBy, planAt, stateAfter}
-use Rattle.ports.specs.Interval.{isInterval, exponentOf, intervalAfter}
-use Rattle.ports.specs.Asking.{candidateOn, bestOn, statusOf, lookedAt, onPort}
+use Rattle.ports.specs.Interval.{isInterval, exponentOf, intervalSet, intervalAfter}
+use Rattle.ports.specs.Asking.{candidateOn, bestOn, statusOf, lookedAt}
 use Rattle.ports.specs.History.{Call, taking, setting, asking, portOfCall, after, run, ownCalls, ownAfter, runOwn}
 use Rattle.ports.proofs.Laws.{port-bounds, with-own, state-of}
 
@@ -36,6 +35,16 @@ use Rattle.ports.proofs.Laws.{port-bounds, with-own, state-of}
 pub refusal-leaves : (ws : List ℕ) (port t : ℕ) (q : Plan) (x : Refusal) → outcomeOf q ≡ outcome.Refused x → stateAfter ws port t q ≡ ws
 refusal-leaves ws port t (Refuse y) x e = refl
 refusal-leaves ws port t (Put i r) x e = absurd (let z : _≡_ {A = ℕ} 0 1 = cc in omega arith)
+
+set-leaves-by : (ws : List ℕ) (port e : ℕ) (x : Refusal) (a b : Bool) → refuse (not a) (outcome.Refused Port) (refuse (not b) (outcome.Refused Field) outcome.Done) ≡ outcome.Refused x
+    → pick (a && b) (with ws port (set (own ws port) 1 e)) ws ≡ ws
+unfolding refuse
+set-leaves-by ws port e x true true h = absurd (let z : _≡_ {A = ℕ} 0 1 = cc in omega arith)
+set-leaves-by ws port e x true false h = refl
+set-leaves-by ws port e x false b h = refl
+
+pub set-refusal-leaves : (ws : List ℕ) (port : ℕ) (k : ℤ) (x : Refusal) → intervalSet port k ≡ outcome.Refused x → intervalAfter ws port k ≡ ws
+set-refusal-leaves ws port k x e = set-leaves-by ws port (exponentOf k) x (isPort port) (isInterval k) e
 
 -- ---- a part of the words
 module _ (ws : List ℕ) (n : length ws ≡ 1764) (port : ℕ) (ip : isPort port ≡ true) where

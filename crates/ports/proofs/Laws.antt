@@ -5,15 +5,15 @@ use mathlib.Core.List.{List, _++_}
 use Prim.Native.Nat.{ℕ, suc, _+_, _-_, _*_, _%_, _≤_, _<_}
 use native.Mathlib.Omega.{arith}
 use native.Mathlib.Decide.{decLe}
-use lib.Dec.{leb, ltb}
+use lib.Dec.{leb}
 use lib.IntN.{ℤ, pos, negsuc}
-use lib.ListN.{length, take, drop, set, take-append-drop}
+use lib.ListN.{take, drop, set, take-append-drop}
 use lib.Seq.{drop-drop}
 use mir.Syntax.{w8}
 use mir.Val.{toZ, ofZ, SFits}
-use mir.ValLaws.{toZ-pos, toZ-neg, toZ-ofZ}
+use mir.ValLaws.{toZ-pos, toZ-neg}
 use borrow.Author.Tests.{not-true, not-false, leb-true, le-leb, lt-leb, lt-ltb, le-ltb}
-use Rattle.refusal.specs.Choice.{pick, refuse}
+use Rattle.refusal.specs.Choice.{refuse}
 use Rattle.refusal.specs.declared.Refusal.{Refusal}
 use Rattle.refusal.specs.declared.Refusal.the-variants.{Port, Field}
 use Rattle.refusal.specs.declared.Outcome.{Outcome}
@@ -24,7 +24,7 @@ use Rattle.senders.specs.declared.Notice as kept
 use Rattle.senders.specs.declared.Plan.{Plan}
 use Rattle.senders.specs.declared.Plan.the-variants.{Refuse, Put}
 use Rattle.senders.specs.Port as senders
-use Rattle.slots.specs.Words.{block, splice, portOf, wordsAfter}
+use Rattle.slots.specs.Words.{block, portOf, wordsAfter}
 use Rattle.slots.proofs.Laws.{lent}
 use Rattle.ports.specs.declared.intake.Settings.{Settings}
 use Rattle.ports.specs.declared.intake.Admitted.{Admitted}

@@ -3,12 +3,11 @@
 use Prim.Native.Nat.{ℕ, _<_}
 use mathlib.Core.Path.{_≡_}
 use mathlib.Core.List.{List, [], _∷_}
-use mathlib.Core.Bool.{Bool, true, false}
+use mathlib.Core.Bool.{false}
 use lib.Dec.{eqb}
 use lib.IntN.{ℤ}
 use lib.ListN.{getD, set}
 use Rattle.refusal.specs.Choice.{pick}
-use Rattle.senders.specs.declared.Record.{Record}
 use Rattle.senders.specs.declared.Notice as kept
 use Rattle.senders.specs.Record.{isOf}
 use Rattle.senders.specs.Port.{slotOf, tab, Live}

@@ -1,5 +1,5 @@
 -- The announce interval as a setting (01, "Sender records": "an announce interval of 2^k seconds, k from -3 to 4 (0 unless set)").
-use Prim.Native.Nat.{ℕ, _+_, _-_, _%_}
+use Prim.Native.Nat.{ℕ, _-_, _%_}
 use mathlib.Core.List.{List}
 use mathlib.Core.Bool.{Bool, not, _&&_, _||_}
 use lib.Dec.{leb, ltb}

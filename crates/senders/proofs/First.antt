@@ -2,7 +2,7 @@
 use mathlib.Core.Path.{_≡_, refl, ap}
 use mathlib.Core.Bool.{Bool, true, false}
 use mathlib.Core.List.{List, [], _∷_}
-use Prim.Native.Nat.{ℕ, zero, suc, _≤_, _<_, zero-le, suc-le-suc}
+use Prim.Native.Nat.{ℕ, zero, suc, _<_, zero-le, suc-le-suc}
 use native.Mathlib.Nat.{le-of-suc-le-suc, not-suc-le-zero}
 use lib.ListN.{length, getD}
 use Rattle.refusal.specs.Choice.{pick}
@@ -47,12 +47,3 @@ module _ (test : Record → Bool) (d : Record) where
   unfolding first
   first-passes [] h = absurd (not-suc-le-zero h)
   first-passes (r ∷ l) h = passes-by r l (test r) refl (first-passes l) h
-
-  most-by : (n m : ℕ) (b : Bool) → n ≤ m → pick b 0 (suc n) ≤ suc m
-  most-by n m true h = zero-le
-  most-by n m false h = suc-le-suc h
-
-  pub first-most : (l : List Record) → first test l ≤ length l
-  unfolding first
-  first-most [] = zero-le
-  first-most (r ∷ l) = most-by (first test l) (length l) (test r) (first-most l)

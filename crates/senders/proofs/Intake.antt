@@ -2,14 +2,13 @@
 -- exactly for a new sender among sixteen live ones, an expired place is used again, and no sender has two records.
 use mathlib.Core.Path.{_≡_, refl, sym, ap, subst, _∙_}
 use mathlib.Core.Bool.{Bool, true, false, not, _&&_}
-use mathlib.Core.List.{List}
 use Prim.Native.Nat.{ℕ, _≤_, _<_}
 use native.Mathlib.Omega.{arith}
 use native.Mathlib.Decide.{decLt}
 use lib.Dec.{ltb, eqb}
 use lib.ListN.{length, getD, set, length-set}
 use lib.Seq.{getD-set-same, getD-set-other}
-use borrow.Author.Tests.{lt-ltb, le-ltb, ltb-true, ltb-false, not-true, not-false, eqb-true, eqb-false, eq-eqb}
+use borrow.Author.Tests.{ltb-true, ltb-false, not-true, not-false, eqb-true, eqb-false, eq-eqb}
 use Rattle.refusal.specs.Choice.{pick, refuse}
 use Rattle.refusal.specs.Refusal.{numberOf}
 use Rattle.refusal.specs.declared.Refusal.{Refusal}
@@ -21,7 +20,7 @@ use Rattle.senders.specs.declared.Plan.{Plan}
 use Rattle.senders.specs.declared.Plan.the-variants.{Refuse, Put}
 use Rattle.senders.specs.Record.{windowOf, isOf, isLive, isFree, isNewer, freshOf, nextOf}
 use Rattle.senders.specs.Port.{Port, emptySlot, slotOf, first, senderPlan, planOf, portAfter, New, Live, AllLive, Single}
-use Rattle.senders.proofs.First.{first-none, first-misses, first-passes, first-most}
+use Rattle.senders.proofs.First.{first-misses, first-passes}
 
 clash : {G : Type 0} {b : Bool} → b ≡ true → b ≡ false → G
 clash {G} {b} p q = absurd (let z : _≡_ {A = ℕ} 0 1 = cc in omega arith)

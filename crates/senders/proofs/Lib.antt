@@ -1,4 +1,3 @@
-pub mod Table
 pub mod First
 pub mod Intake
 pub mod Candidates

@@ -1,14 +1,13 @@
 -- Worked inputs, computed: rows 3 to 8 of 01's "Worked at the edges", the eight windows, and histories of one port that
 -- rule out an intake that does nothing, refuses everything or has one answer.
 use mathlib.Core.Path.{_≡_, refl}
-use mathlib.Core.Bool.{Bool, true, false}
-use mathlib.Core.List.{List, [], _∷_, map}
+use mathlib.Core.Bool.{true, false}
+use mathlib.Core.List.{[], _∷_, map}
 use Prim.Native.Nat.{ℕ}
 use Rattle.refusal.specs.Choice.{refuse}
 use Rattle.refusal.specs.declared.Refusal.the-variants.{Backward, Stale, Full}
 use Rattle.senders.specs.declared.Notice.{Notice}
 use Rattle.senders.specs.declared.Record.{Record}
-use Rattle.senders.specs.declared.Plan.{Plan}
 use Rattle.senders.specs.declared.Plan.the-variants.{Refuse, Put}
 use Rattle.senders.specs.Record.{windowOf, isLive, isQualified, isNewer, freshOf, nextOf}
 use Rattle.senders.specs.Port.{Port, emptySlot, tab, first, planOf, portAfter}

@@ -49,24 +49,15 @@ pub enum Asked {
     Found(Candidate),
 }
 
-// Four intervals of 2^k seconds in nanoseconds, for k from -3 to 4.
-const WINDOWS: [u64; 8] = [
-    500000000,
-    1000000000,
-    2000000000,
-    4000000000,
-    8000000000,
-    16000000000,
-    32000000000,
-    64000000000,
-];
+// Four intervals of an eighth of a second, in nanoseconds.
+const LEAST: u64 = 500000000;
 
-// The window of a port; `e` is k modulo 8.
+// The window of a port, four intervals of 2^k seconds; `e` is k modulo 8, and k is from -3 to 4.
 pub fn window(e: u64) -> u64
     ensures { λ r. ⌜ r ≡ windowOf e ⌝ }
 {
-    let n = ((e % 8 + 3) % 8) as usize;
-    WINDOWS[n]
+    let n = (e % 8 + 3) % 8;
+    LEAST << n
 }
 
 // How long ago a receipt was.

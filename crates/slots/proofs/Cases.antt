@@ -2,11 +2,11 @@
 use mathlib.Core.Path.{_≡_, refl, sym, ap, _∙_}
 use mathlib.Core.Bool.{Bool, true, false, _&&_}
 use mathlib.Core.List.{List, [], _∷_, map}
-use Prim.Native.Nat.{ℕ, suc, _≤_, _<_}
+use Prim.Native.Nat.{ℕ, suc, _+_, _*_, _≤_, _<_}
 use native.Mathlib.Omega.{arith}
 use lib.Dec.{ltb}
-use lib.ListN.{length, getD, drop}
-use lib.Seq.{drop-cons}
+use lib.ListN.{length, getD, take, drop}
+use lib.Seq.{drop-cons, getD-take, getD-drop}
 use borrow.Author.Tests.{lt-ltb, le-ltb, ne-eqb, eq-eqb}
 use Rattle.refusal.specs.Choice.{pick, refuse}
 use Rattle.refusal.specs.declared.Refusal.the-variants.{Backward}
@@ -17,15 +17,15 @@ use Rattle.rank.specs.Ranked as ranked
 use Rattle.senders.specs.declared.Notice.{Notice}
 use Rattle.senders.specs.declared.Record.{Record}
 use Rattle.senders.specs.declared.Plan.{Plan}
-use Rattle.senders.specs.declared.Plan.the-variants.{Refuse, Put}
+use Rattle.senders.specs.declared.Plan.the-variants.{Refuse}
 use Rattle.senders.specs.declared.Asked.{Asked}
 use Rattle.senders.specs.declared.Asked.the-variants.{Refused, Absent, Found}
 use Rattle.senders.specs.Record.{windowOf, isOf, isFree, isQualified, candidateOf}
 use Rattle.senders.specs.Port.{Port, emptySlot, slotOf, tab, first, kept, knownOf, newOf, planOf, askedOf, candidateIn, candidatesOf, bestOf, headOf}
-use Rattle.slots.specs.declared.Seen.{Seen}
 use Rattle.slots.specs.declared.Seen.the-variants.{Empty, Held}
-use Rattle.slots.specs.Words.{slotAt, slotsOf, portOf, seenIn, candidateAt, outdoesIn, bestIn}
+use Rattle.slots.specs.Words.{recordOf, slotAt, slotsOf, portOf, seenIn, candidateAt, aheadIn, outdoesIn, bestIn}
 use Rattle.slots.proofs.Laws.{length-tab, getD-tab, getD-past}
+use Rattle.slots.proofs.Order.{earlier-words}
 
 -- ---- a slot of the words is that of the port
 pub slot-is : (ws : List ℕ) (i : ℕ) → i < 16 → slotAt ws i ≡ slotOf (portOf ws) i
@@ -120,20 +120,32 @@ turned A i b c d true true false ai ab e = ab ∙ sym (ap (ahead c) ab ∙ ap (�
 turned A i b c d true false y ai ab e = ai ∙ sym (ap (ahead c) ab)
 turned A i b c d false x y ai ab e = refl
 
-module _ (port : ℕ) (ws : List ℕ) (w t i b : ℕ) (h : i < 16) where
+-- the words are words
+abbrev pub Words64 : List ℕ → Type 0
+Words64 ws = (k : ℕ) → getD ws k 0 < 0x10000000000000000
+
+grade-word : (ws : List ℕ) (c : ℕ) → Words64 ws → getD (take 6 (drop c ws)) 5 0 < 0x10000000000000000
+grade-word ws c words = let e = getD-take 6 (drop c ws) 5 0 (omega arith) ∙ getD-drop c ws 5 0 in rw e (words (c + 5))
+
+ahead-is : (port : ℕ) (ws : List ℕ) (i b : ℕ) → Words64 ws → aheadIn ws i b ≡ earlierOf (candidateOf port (slotAt ws i)) (candidateOf port (slotAt ws b))
+unfolding aheadIn recordOf
+ahead-is port ws i b words =
+    earlier-words port (take 6 (drop (2 + 6 * i) ws)) (take 6 (drop (2 + 6 * b) ws)) (grade-word ws (2 + 6 * i) words) (grade-word ws (2 + 6 * b) words)
+
+module _ (port : ℕ) (ws : List ℕ) (words : Words64 ws) (w t i b : ℕ) (h : i < 16) where
   from-here : drop i (slotsOf ws) ≡ slotAt ws i ∷ drop (suc i) (slotsOf ws)
   from-here =
       let n : i < length (slotsOf ws) = rw (length-tab 16 (slotAt ws)) h in
       drop-cons (slotsOf ws) i emptySlot n ∙ ap (λ (r : Record). r ∷ drop (suc i) (slotsOf ws)) (sym (slot-is ws i h))
 
   -- the walk from the last slot to the first
-  pub best-turn : (o : Bool) (j : ℕ) → o ≡ outdoesIn port ws i b w t → j ≡ suc i → candidateAt port ws b ≡ bestIn port w t (drop j (slotsOf ws))
+  pub best-turn : (o : Bool) (j : ℕ) → o ≡ outdoesIn ws i b w t → j ≡ suc i → candidateAt port ws b ≡ bestIn port w t (drop j (slotsOf ws))
       → candidateAt port ws (pick o i b) ≡ bestIn port w t (drop i (slotsOf ws))
   best-turn o j eo ej inv =
       let c = candidateOf port (slotAt ws i) in
       let q = isQualified w t (slotAt ws i) in
       let d = candidateOf port (slotAt ws b) in
-      ap (λ (z : Bool). candidateAt port ws (pick z i b)) eo
+      ap (λ (z : Bool). candidateAt port ws (pick z i b)) (eo ∙ ap (λ (z : Bool). q && pick (ltb b 16) z true) (ahead-is port ws i b words))
       ∙ turned (candidateAt port ws) i b c d q (ltb b 16) (earlierOf c d) (rw (lt-ltb _ _ h)) refl refl
       ∙ ap (λ (z : Asked). pick q (ahead c z) z) (inv ∙ ap (λ (k : ℕ). bestIn port w t (drop k (slotsOf ws))) ej)
       ∙ sym (ap (bestIn port w t) from-here ∙ best-cons port w t (slotAt ws i) (drop (suc i) (slotsOf ws)))
@@ -152,9 +164,3 @@ module _ (port : ℕ) (ws : List ℕ) (w t b : ℕ) (ew : w ≡ windowOf (portOf
 
   pub best-no : 16 ≤ b → Absent ≡ bestOf port (portOf ws) t
   best-no h = rw (le-ltb _ _ h) at its
-
-pub outdoes-both : (port : ℕ) (ws : List ℕ) (i b w t : ℕ) (r s : Record) (c d : Candidate) (q y : Bool) → r ≡ slotAt ws i → q ≡ isQualified w t r → q ≡ true
-    → b < 16 → s ≡ slotAt ws b → c ≡ candidateOf port r → d ≡ candidateOf port s → y ≡ earlierOf c d → y ≡ outdoesIn port ws i b w t
-outdoes-both port ws i b w t r s c d q y er eq h hb es ec ed ey =
-    rw (← er, sym eq ∙ h, lt-ltb _ _ hb, ← es)
-    (ey ∙ ap (λ (z : Candidate). earlierOf z d) ec ∙ ap (earlierOf (candidateOf port r)) ed)

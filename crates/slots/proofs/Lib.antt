@@ -2,4 +2,5 @@ pub mod Laws
 pub mod Cases
 pub mod Places
 pub mod Meaning
+pub mod Order
 pub mod Determined

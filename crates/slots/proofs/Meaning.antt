@@ -1,7 +1,7 @@
 -- What the words mean: a record that was written is read back, and the words after a plan are the port after it.
 use mathlib.Core.Path.{_≡_, refl, ap, sym, _∙_}
 use mathlib.Core.Bool.{Bool, true, false, not}
-use mathlib.Core.List.{List, [], _∷_}
+use mathlib.Core.List.{List}
 use mathlib.Core.Logic.{⊎-elim, _⊎_, inl, inr}
 use Prim.Native.Nat.{ℕ, _+_, _*_, _/_, _%_, _≤_, _<_}
 use native.Mathlib.Omega.{arith}
@@ -11,8 +11,7 @@ use lib.Seq.{drop-set-lt, getD-set-same, getD-set-other}
 use Rattle.rank.specs.declared.Grandmaster.{Grandmaster}
 use Rattle.senders.specs.declared.Notice.{Notice}
 use Rattle.senders.specs.declared.Record.{Record}
-use Rattle.senders.specs.declared.Plan.{Plan}
-use Rattle.senders.specs.declared.Plan.the-variants.{Refuse, Put}
+use Rattle.senders.specs.declared.Plan.the-variants.{Put}
 use Rattle.senders.specs.Record.{windowOf, isOf, isFree, freshOf, nextOf}
 use Rattle.senders.specs.Port.{Port, slotOf, portAfter, planOf, Live}
 use Rattle.senders.proofs.Intake.{plan-cases}

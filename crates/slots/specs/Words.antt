@@ -10,7 +10,6 @@ use Rattle.rank.specs.declared.Grandmaster.{Grandmaster}
 use Rattle.rank.specs.Order.{earlierOf}
 use Rattle.rank.specs.Best.{best}
 use Rattle.rank.specs.Ranked as ranked
-use Rattle.senders.specs.declared.Notice.{Notice}
 use Rattle.senders.specs.declared.Record.{Record}
 use Rattle.senders.specs.declared.Plan.{Plan}
 use Rattle.senders.specs.declared.Plan.the-variants.{Refuse, Put}
@@ -114,11 +113,28 @@ seenIn p i = seenRecord (slotOf p i)
 abbrev pub candidateAt : ℕ → List ℕ → ℕ → Asked
 candidateAt port ws i = pick (ltb i 16) (Found (candidateOf port (slotAt ws i))) Absent
 
+-- rank order of two records on one port, as their words show it: the quality as one number, the grandmaster, stepsRemoved, the sender, wrFlags
+abbrev pub laterIn : ℕ → ℕ → Bool
+laterIn a b =
+    pick (eqb (a % 0x10000) (b % 0x10000)) (ltb (a / 0x100000000 % 0x10000) (b / 0x100000000 % 0x10000)) (ltb (a % 0x10000) (b % 0x10000))
+
+abbrev pub beforeIn : List ℕ → List ℕ → Bool
+beforeIn a b =
+    pick (eqb (getD a 5 0 / 0x10000) (getD b 5 0 / 0x10000))
+    (pick (eqb (getD a 4 0) (getD b 4 0))
+    (pick (eqb (getD a 5 0 % 0x10000) (getD b 5 0 % 0x10000))
+    (pick (eqb (getD a 0 0) (getD b 0 0)) (laterIn (getD a 1 0) (getD b 1 0)) (ltb (getD a 0 0) (getD b 0 0)))
+    (ltb (getD a 5 0 % 0x10000) (getD b 5 0 % 0x10000)))
+    (ltb (getD a 4 0) (getD b 4 0)))
+    (ltb (getD a 5 0 / 0x10000) (getD b 5 0 / 0x10000))
+
+-- slot i stands before slot b
+unfoldable pub aheadIn : List ℕ → ℕ → ℕ → Bool
+aheadIn ws i b = beforeIn (block ws (2 + 6 * i) 6) (block ws (2 + 6 * b) 6)
+
 -- slot i is qualified, and stands before slot b where that is one
-abbrev pub outdoesIn : ℕ → List ℕ → ℕ → ℕ → ℕ → ℕ → Bool
-outdoesIn port ws i b w t =
-    isQualified w t (slotAt ws i)
-    && pick (ltb b 16) (earlierOf (candidateOf port (slotAt ws i)) (candidateOf port (slotAt ws b))) true
+abbrev pub outdoesIn : List ℕ → ℕ → ℕ → ℕ → ℕ → Bool
+outdoesIn ws i b w t = isQualified w t (slotAt ws i) && pick (ltb b 16) (aheadIn ws i b) true
 
 -- the best candidate of a list of records
 unfoldable pub bestIn : ℕ → ℕ → ℕ → List Record → Asked

@@ -6,10 +6,10 @@
 // changes; an Announce that is taken writes one record and the time. Reading messages, and which port's words these
 // are, is left to those above.
 ghost use mathlib.Core.Path.{_≡_};
-ghost use Prim.Native.Nat.{_<_};
+ghost use Prim.Native.Nat.{ℕ, _<_};
 ghost use lib.ListN.{length, set};
 ghost use Rattle.senders.specs.Port.{first, planOf, outcomeOf, askedOf, candidateIn, bestOf};
-ghost use Rattle.slots.specs.Words.{ofSix, sixOf, idWord, gradeWord, slotAt, slotsOf, portOf, putSlot, wordsAfter, soughtIn, seenIn, candidateAt, outdoesIn, bestIn};
+ghost use Rattle.slots.specs.Words.{ofSix, sixOf, idWord, gradeWord, slotAt, slotsOf, portOf, putSlot, wordsAfter, soughtIn, seenIn, candidateAt, beforeIn, laterIn, aheadIn, outdoesIn, bestIn};
 use rank::Grandmaster;
 use rank::PortIdentity;
 use refusal::Outcome;
@@ -211,33 +211,73 @@ pub fn candidate(ws: &[u64], port: u8, i: usize, t: u64) -> Asked
     Asked::Absent
 }
 
-// Whether the record in slot `i` is qualified and stands before that in slot `b`, where `b` is one.
-fn outdoes(ws: &[u64], port: u8, i: usize, b: usize, w: u64, t: u64) -> bool
-    requires { ⌜ (length (now ws) ≡ 98) × (i < 16) ⌝ }
-    ensures { λ r. ⌜ r ≡ outdoesIn port (now (ws .entry)) i b w t ⌝ }
+// Whether the record of six words stands before that of six others in rank order, on one port. The quality is one number
+// in its word, highest key first, so that it is compared at once.
+fn stands_before(a: &[u64], b: &[u64]) -> bool
+    requires { ⌜ (length (now a) ≡ 6) × (length (now b) ≡ 6) ⌝ }
+    ensures { λ r. ⌜ r ≡ beforeIn (now (a .entry)) (now (b .entry)) ⌝ }
 {
-    let r = load(ws, i);
-    if !senders::is_qualified(r, w, t) {
+    let p = a[5];
+    let q = b[5];
+    if p / 0x10000 != q / 0x10000 {
+        return p / 0x10000 < q / 0x10000;
+    }
+    if a[4] != b[4] {
+        return a[4] < b[4];
+    }
+    if p % 0x10000 != q % 0x10000 {
+        return p % 0x10000 < q % 0x10000;
+    }
+    if a[0] != b[0] {
+        return a[0] < b[0];
+    }
+    later_keys(a[1], b[1])
+}
+
+// The keys behind the sender's clock: its port, then wrFlags.
+fn later_keys(a: u64, b: u64) -> bool
+    ensures { λ r. ⌜ r ≡ laterIn a b ⌝ }
+{
+    if a % 0x10000 != b % 0x10000 {
+        return a % 0x10000 < b % 0x10000;
+    }
+    a / 0x100000000 % 0x10000 < b / 0x100000000 % 0x10000
+}
+
+// Whether slot `i` stands before slot `b`.
+fn is_ahead(ws: &[u64], i: usize, b: usize) -> bool
+    requires { ⌜ (length (now ws) ≡ 98) × (i < 16) × (b < 16) ⌝ }
+    ensures { λ r. ⌜ r ≡ aheadIn (now (ws .entry)) i b ⌝ }
+{
+    let from = 2 + 6 * i;
+    let to = 2 + 6 * b;
+    stands_before(&ws[from..from + 6], &ws[to..to + 6])
+}
+
+// Whether the record in slot `i` is qualified and stands before that in slot `b`, where `b` is one.
+fn outdoes(ws: &[u64], i: usize, b: usize, w: u64, t: u64) -> bool
+    requires { ⌜ (length (now ws) ≡ 98) × (i < 16) ⌝ }
+    ensures { λ r. ⌜ r ≡ outdoesIn (now (ws .entry)) i b w t ⌝ }
+{
+    if !senders::is_qualified(load(ws, i), w, t) {
         return false;
     }
     if b < SLOTS {
-        let c = senders::candidate(r, port);
-        let d = senders::candidate(load(ws, b), port);
-        return rank::earlier(c, d);
+        return is_ahead(ws, i, b);
     }
     true
 }
 
 // The slot of the best candidate at `t`, or 16; from the last slot to the first.
-fn best_slot(ws: &[u64], port: u8, w: u64, t: u64) -> usize
+fn best_slot(ws: &[u64], w: u64, t: u64) -> usize
     requires { ⌜ length (now ws) ≡ 98 ⌝ }
-    ensures { λ r. ⌜ candidateAt port (now (ws .entry)) r ≡ bestIn port w t (slotsOf (now (ws .entry))) ⌝ }
+    ensures { λ r. ⌜ ((port : ℕ) → candidateAt port (now (ws .entry)) r ≡ bestIn port w t (slotsOf (now (ws .entry)))) ⌝ }
 {
     let mut b = SLOTS;
     let mut i = SLOTS;
     while 0 < i {
         i -= 1;
-        if outdoes(ws, port, i, b, w, t) {
+        if outdoes(ws, i, b, w, t) {
             b = i;
         }
     }
@@ -252,7 +292,7 @@ pub fn best(ws: &[u64], port: u8, t: u64) -> Asked
     if t < ws[0] {
         return Asked::Refused(Refusal::Backward);
     }
-    let b = best_slot(ws, port, senders::window(ws[1]), t);
+    let b = best_slot(ws, senders::window(ws[1]), t);
     if b < SLOTS {
         return Asked::Found(senders::candidate(load(ws, b), port));
     }

@@ -35,7 +35,7 @@ returns-2 c =
     let w = s .before in
     let g = w .before .before .before .before .before .args in
     ask-on (portOf (g .ws .now)) (g .t) _ _ (w .before .before .if1 .left)
-    (best-yes (g .port) (g .ws .now) _ (g .t) _ (w .window .ensures) (s .best-slot .ensures) _ _ (l .before .if2 .taken) (l .load .ensures) (c .candidate .ensures))
+    (best-yes (g .port) (g .ws .now) _ (g .t) _ (w .window .ensures) (s .best-slot .ensures (g .port)) _ _ (l .before .if2 .taken) (l .load .ensures) (c .candidate .ensures))
 
 returns-3 : tie.Need-returns-3
 returns-3 c =
@@ -43,7 +43,7 @@ returns-3 c =
     let w = s .before in
     let g = w .before .before .before .before .before .args in
     ask-on (portOf (g .ws .now)) (g .t) _ _ (w .before .before .if1 .left)
-    (best-no (g .port) (g .ws .now) _ (g .t) _ (w .window .ensures) (s .best-slot .ensures) (c .if2 .left))
+    (best-no (g .port) (g .ws .now) _ (g .t) _ (w .window .ensures) (s .best-slot .ensures (g .port)) (c .if2 .left))
 
 pub best-spec : {M : Type 1} → statement M
 best-spec =

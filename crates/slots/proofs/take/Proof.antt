@@ -1,11 +1,8 @@
 -- `take` meets its contract: a plan that refuses leaves the words, and one that puts a record writes it and the time.
-use mathlib.Core.Path.{_≡_, sym, ap, _∙_}
+use mathlib.Core.Path.{sym, ap, _∙_}
 use mathlib.Core.List.{List}
-use Prim.Native.Nat.{ℕ, _<_}
+use Prim.Native.Nat.{ℕ}
 use lib.ListN.{set}
-use Rattle.senders.specs.Port.{planOf}
-use Rattle.senders.specs.declared.Plan.the-variants.{Put}
-use Rattle.slots.specs.Words.{portOf}
 use Rattle.slots.proofs.Laws.{refused, put}
 use Rattle.slots.proofs.Places.{plan-place}
 use borrow.Author.Needs.{needs}

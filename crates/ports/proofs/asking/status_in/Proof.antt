@@ -1,7 +1,5 @@
 -- `status_in` meets its contract: the port's own words answer.
 use mathlib.Core.Path.{_∙_, sym, ap}
-use mathlib.Core.List.{List}
-use Prim.Native.Nat.{ℕ}
 use borrow.Author.Tests.{not-false}
 use Rattle.ports.proofs.Laws.{no-port, on-port, lent-own}
 use Rattle.ports.specs.Asking.{knownIn}
