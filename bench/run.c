@@ -24,7 +24,7 @@ uint64_t __attribute__((noinline)) CALL(TAKES)
 }
 #endif
 
-/* Eighteen fresh links: the one of port 7 is told LOCK and ignores it. */
+/* Eighteen links: that of port 7, a slave in PRESENT, is told LOCK and goes to S_LOCK; each turn puts it back. */
 static uint64_t words[72];
 static uint64_t exchange[18] = {1700000000, 123456789, 1 << 20, 3 << 18, 1700000000, 123999999, 4660, 1700000000, 500000000, 22136, 1700000000, 500500500, 1 << 19,
     230000000000, 240000000000, 250000000000, 260000000000, 1 << 20};
@@ -43,6 +43,7 @@ void __attribute__((noreturn)) _start(void)
 #endif
     for (long i = 0; i < N; i++) {
         __asm__ volatile("" : : "r"(message), "r"(exchange), "r"(words) : "memory");
+        words[24] = 1;
         sum += CALL(HANDS);
     }
     for (;;) __asm__ volatile("syscall" : : "a"(60L), "D"(sum == 1 ? 1L : 0L), "r"(length) : "rcx", "r11", "memory");
