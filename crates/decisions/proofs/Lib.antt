@@ -1,0 +1,4 @@
+pub mod Bests
+pub mod Electing
+pub mod Filling
+pub mod Deciding

@@ -1,0 +1,2 @@
+pub mod Elected
+pub mod Decisions
