@@ -1,0 +1,132 @@
+// The exchange of the slave port once an hour: Sync and Follow_Up out of which the engine takes the origin time, a
+// Delay_Req and its answer, and what they give. What the fibre and our oscillator do is made up; the delay and the offset
+// are the engine's.
+use crate::cast;
+use crate::cast::MAGIC;
+use delay::Asymmetry;
+use delay::Corrections;
+use delay::Exchange;
+use delay::FineStamp;
+use delay::Latencies;
+use delay::Measurement;
+use delay::ScaledNs;
+use delay::ScaledPs;
+use delay::Stamp;
+use delay::Stamps;
+use message::fields::Body;
+use message::fields::Message;
+use message::fields::Timestamp;
+
+// A nanosecond and a picosecond, times 2^16.
+const SCALE: u64 = 65536;
+
+// The fibre's one way and the four latencies, in nanoseconds.
+const FIBRE: u64 = 24_480;
+
+const MASTER_TX: u64 = 226;
+
+const MASTER_RX: u64 = 232;
+
+const SLAVE_TX: u64 = 224;
+
+const SLAVE_RX: u64 = 230;
+
+// The two-step bit, of octet 6.
+const TWO_STEP: u16 = 0x0200;
+
+// How far our clock is ahead in an hour, in nanoseconds times 2^16: half as much each hour, and anew with each master.
+fn ahead(h: u64) -> u64 {
+    if h < 13 {
+        return 800 * SCALE >> h;
+    }
+    if h < 24 { 40 * SCALE >> (h - 13) } else { 0 }
+}
+
+fn stamped(clock: u64, sequence: u16, flags: u16, body: Body, out: &mut [u8]) -> usize {
+    let m = Message {
+        header: cast::header(clock, sequence, flags),
+        body,
+    };
+    match writer::writing::write(out, m, b"", MAGIC) {
+        writer::writing::Written::Octets(n) => n,
+        writer::writing::Written::Refused(_) => 0,
+    }
+}
+
+// The time that ten octets hold.
+fn time_in(part: &[u8]) -> Stamp {
+    Stamp {
+        seconds: octets::u48_at(part, 0),
+        nanos: octets::u32_at(part, 6),
+    }
+}
+
+// t1 of the hour, from the Follow_Up of a two-step Sync.
+fn origin_time(master: u64, h: u64) -> Stamp {
+    let n = (h % 24) as u16;
+    let mut sync = [0u8; 44];
+    let mut follow = [0u8; 44];
+    let early = Timestamp {
+        seconds: 0,
+        nanoseconds: 0,
+    };
+    let precise = Timestamp {
+        seconds: h % 24 * 3600,
+        nanoseconds: 0,
+    };
+    stamped(master, n, TWO_STEP, Body::Sync(early), &mut sync);
+    stamped(master, n, 0, Body::FollowUp(precise), &mut follow);
+    time_in(origin::origin(&sync, &follow, MAGIC))
+}
+
+fn fine(seconds: u64, scaled: u64) -> FineStamp {
+    FineStamp {
+        seconds,
+        nanos: (scaled / SCALE % 1_000_000_000) as u32,
+        fraction: (scaled % SCALE) as u16,
+    }
+}
+
+// The four times of the hour's exchange.
+fn stamps(master: u64, h: u64) -> Stamps {
+    let t1 = origin_time(master, h);
+    let seconds = t1.seconds;
+    let there = std::num::wrapping_add_u64((MASTER_TX + FIBRE + SLAVE_RX) * SCALE, ahead(h));
+    let back = std::num::wrapping_add_u64(500_000_000 * SCALE, ahead(h));
+    Stamps {
+        t1: t1,
+        t2: fine(seconds, there),
+        t3: fine(seconds, back),
+        t4: Stamp {
+            seconds,
+            nanos: (500_000_000 + SLAVE_TX + FIBRE + MASTER_RX) as u32,
+        },
+    }
+}
+
+fn latency(ns: u64) -> ScaledPs {
+    ScaledPs(ns % 10_000 * 1000 * SCALE)
+}
+
+fn latencies() -> Latencies {
+    Latencies {
+        mtx: latency(MASTER_TX),
+        mrx: latency(MASTER_RX),
+        stx: latency(SLAVE_TX),
+        srx: latency(SLAVE_RX),
+    }
+}
+
+// The hour's delay and offset from a master.
+pub fn measured(master: u64, h: u64) -> Measurement {
+    delay::measure(Exchange {
+        stamps: stamps(master, h),
+        corrections: Corrections {
+            sync: ScaledNs(0),
+            follow: ScaledNs(0),
+            resp: ScaledNs(0),
+        },
+        latencies: latencies(),
+        asymmetry: Asymmetry(0),
+    })
+}
