@@ -82,12 +82,8 @@ fn rise_told(out: &mut [u8], at: usize, port: u8, r: link_up::Rise) -> usize {
     if !r.on {
         return answer::text(out, two, b": White Rabbit link not on");
     }
-    let three = answer::text(
-        out,
-        two,
-        b", White Rabbit link on: events and messages sent",
-    );
-    answer::numbers(out, three, &[r.events, r.sent])
+    let three = answer::text(out, two, b": White Rabbit link on after");
+    rise_counted(out, three, r)
 }
 
 // The link to the parent, in the hours in which it is brought up.
