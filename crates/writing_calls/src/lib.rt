@@ -171,6 +171,7 @@ fn stamped(line: &[u8], kind: u8, from: Args) -> BodyRead {
     }
 }
 
+// The body of an Announce.
 fn announced(line: &[u8], from: Args) -> BodyRead {
     let a = announce(line, from);
     let content = a.announce;
@@ -181,6 +182,7 @@ fn announced(line: &[u8], from: Args) -> BodyRead {
     }
 }
 
+// The body of a Signaling: its target.
 fn signaling(line: &[u8], from: Args) -> BodyRead {
     let p = identity(line, from);
     let target = p.identity;
@@ -296,6 +298,7 @@ fn listed(
     )
 }
 
+// Whether the type is listed decides how the rest of the line is read.
 fn by_type(
     line: &[u8],
     a: Front,
@@ -311,6 +314,7 @@ fn by_type(
     }
 }
 
+// A buffer of as many octets as the line says, all unwritten, and the message that goes into it.
 fn write_call(line: &[u8], magic: u16, room: &mut [u8], out: &mut [u8], at: usize) -> usize {
     let a = front_of(line);
     let n = a.room;
@@ -321,6 +325,7 @@ fn write_call(line: &[u8], magic: u16, room: &mut [u8], out: &mut [u8], at: usiz
     by_type(line, a, magic, room, &mut buffer[0..n], out, at)
 }
 
+// The ten octets, or why there are none.
 fn origin_time<'a>(
     out: &mut [u8],
     at: usize,
@@ -347,6 +352,7 @@ fn between(s: &[u8], from: usize, to: usize) -> &[u8] {
     &s[0..0]
 }
 
+// The Sync and its Follow_Up stand in the room one behind the other.
 fn origin_call(line: &[u8], magic: u16, room: &mut [u8], out: &mut [u8], at: usize) -> usize {
     let s = args::hex(line, args::behind(6), room, 0);
     let mid = s.end;
