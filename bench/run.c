@@ -1,11 +1,14 @@
 /* Calls one function N times and ends: what is counted. No library, so that nothing else runs. -DCALL=function, -DN=times;
-   -DREAD for a message, with -DSUFFIX the one with the White Rabbit suffix; -DDELAY for an exchange; -DLINK for a message to a link. */
+   -DREAD for a message, with -DSUFFIX the one with the White Rabbit suffix; -DWRITE for one to be written; -DDELAY for an exchange; -DLINK for a message to a link. */
 #include <stddef.h>
 #include <stdint.h>
 
 #if defined(READ)
 #define TAKES const uint8_t *s, size_t n, uint16_t magic
 #define HANDS message, length, 0xABCD
+#elif defined(WRITE)
+#define TAKES uint8_t *s, const uint64_t *w, uint16_t magic
+#define HANDS page, announce, 0xABCD
 #elif defined(DELAY)
 #define TAKES const uint64_t *s
 #define HANDS exchange
@@ -28,6 +31,9 @@ uint64_t __attribute__((noinline)) CALL(TAKES)
 static uint64_t words[72];
 static uint64_t exchange[18] = {1700000000, 123456789, 1 << 20, 3 << 18, 1700000000, 123999999, 4660, 1700000000, 500000000, 22136, 1700000000, 500500500, 1 << 19,
     230000000000, 240000000000, 250000000000, 260000000000, 1 << 20};
+/* The message below in the words of the call `write`, with wrFlags 7. */
+static uint64_t announce[20] = {0, 0, 0, 0, 0x001122fffe334455, 1, 7, 0, 1700000000, 123456789, 37, 128, 6, 0x21, 0x4e5d, 128, 0x001122fffe334455, 0, 0x20, 7};
+static uint8_t page[128];
 static uint8_t message[78] = {
     0x0b, 0x02, 0x00, 64, 0, 0, 0, 0, 0, 0, 0, 0, 0, 0, 0, 0, 0, 0, 0, 0, 0x00, 0x11, 0x22, 0xff, 0xfe, 0x33, 0x44, 0x55, 0, 1, 0, 7, 5, 0,
     0, 0, 0x65, 0x53, 0xf1, 0x00, 0x07, 0x5b, 0xcd, 0x15, 0, 37, 0, 128, 6, 0x21, 0x4e, 0x5d, 128, 0x00, 0x11, 0x22, 0xff, 0xfe, 0x33, 0x44, 0x55,
@@ -42,7 +48,7 @@ void __attribute__((noreturn)) _start(void)
     message[3] = length = 78;
 #endif
     for (long i = 0; i < N; i++) {
-        __asm__ volatile("" : : "r"(message), "r"(exchange), "r"(words) : "memory");
+        __asm__ volatile("" : : "r"(message), "r"(announce), "r"(page), "r"(exchange), "r"(words) : "memory");
         words[24] = 1;
         sum += CALL(HANDS);
     }

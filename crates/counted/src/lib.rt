@@ -1,7 +1,8 @@
 // What `bench/` counts, as functions that C can call. Nothing is decided here.
 //
 // A message read: every field of it is added up, so that each is looked at once; a message that is refused gives the
-// refusal's number. A step of a link, and a measurement, whose answers are added up in the same way.
+// refusal's number. An Announce with its suffix, written. A step of a link, and a measurement, whose answers are added up
+// in the same way.
 use delay::Asymmetry;
 use delay::Corrections;
 use delay::Exchange;
@@ -18,9 +19,11 @@ use message::announce::Announced;
 use message::fields::Announce;
 use message::fields::Body;
 use message::fields::Header;
+use message::fields::Message;
 use message::fields::PortIdentity;
 use message::fields::Timestamp;
 use message::reading::Reading;
+use writer::writing::Written;
 
 fn plus(a: u64, b: u64) -> u64 {
     std::num::wrapping_add_u64(a, b)
@@ -163,4 +166,73 @@ pub extern "C" fn dz_count_link(words: &mut [u64; 72], port: u8, number: u16) ->
         Taken::Refused(r) => refusal::number(r) as u64,
         Taken::Step(s) => s.report as u64,
     }
+}
+
+fn octet(w: u64) -> u8 {
+    (w % 256) as u8
+}
+
+fn pair(w: u64) -> u16 {
+    (w % 65536) as u16
+}
+
+fn header_from(w: &[u64; 20]) -> Header {
+    Header {
+        transport: octet(w[0]),
+        domain: octet(w[1]),
+        flags: pair(w[2]),
+        correction: octets::signed64(w[3]),
+        source: PortIdentity {
+            clock: w[4],
+            port: pair(w[5]),
+        },
+        sequence: pair(w[6]),
+        interval: octets::signed8(octet(w[7])),
+    }
+}
+
+fn announce_from(w: &[u64; 20]) -> Announce {
+    Announce {
+        origin: Timestamp {
+            seconds: w[8],
+            nanoseconds: (w[9] % 4_294_967_296) as u32,
+        },
+        utc: octets::signed16(pair(w[10])),
+        priority1: octet(w[11]),
+        class: octet(w[12]),
+        accuracy: octet(w[13]),
+        variance: pair(w[14]),
+        priority2: octet(w[15]),
+        grandmaster: w[16],
+        steps: pair(w[17]),
+        timesource: octet(w[18]),
+    }
+}
+
+fn of_written(x: Written) -> u64 {
+    match x {
+        Written::Refused(x) => refusal::number(x) as u64,
+        Written::Octets(n) => n as u64,
+    }
+}
+
+// A message with the first octets of `tlv` as its tail.
+fn put(out: &mut [u8], m: Message, tlv: &[u8], size: usize, magic: u16) -> u64 {
+    if tlv.len() < size {
+        return 0;
+    }
+    of_written(writer::writing::write(out, m, &tlv[0..size], magic))
+}
+
+// An Announce with the suffix written: how many octets, or the number that refuses it. The words are those of the call
+// `write` behind its type (docs/VECTORS.md), signed numbers as their two's complement, and wrFlags in the tail's place.
+#[no_mangle]
+pub extern "C" fn dz_count_write(out: &mut [u8; 128], w: &[u64; 20], magic: u16) -> u64 {
+    let m = Message {
+        header: header_from(w),
+        body: Body::Announce(announce_from(w)),
+    };
+    let t = wrwriter::suffix(pair(w[19]), magic);
+    let octets = t.octets;
+    put(&mut out[..], m, &octets, t.size, magic)
 }

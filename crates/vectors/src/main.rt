@@ -42,9 +42,18 @@ fn computed(line: &[u8], set: Settings, out: &mut [u8], at: usize) -> usize {
     ranking_calls::answer(line, own_grandmaster(set), out, at)
 }
 
-// The answer to a call that reads or computes; the same place where the line is none.
+// The answer to a call that reads or writes messages; the same place where the line is none.
+fn of_messages(line: &[u8], magic: u16, room: &mut [u8], out: &mut [u8], at: usize) -> usize {
+    let to = reading_calls::answer(line, magic, room, out, at);
+    if to != at {
+        return to;
+    }
+    writing_calls::answer(line, magic, room, out, at)
+}
+
+// The answer to a call that reads, writes or computes; the same place where the line is none.
 fn stateless(line: &[u8], set: Settings, room: &mut [u8], out: &mut [u8], at: usize) -> usize {
-    let to = reading_calls::answer(line, set.magic, room, out, at);
+    let to = of_messages(line, set.magic, room, out, at);
     if to != at {
         return to;
     }
