@@ -53,11 +53,6 @@ circle = (refl, refl, refl)
 pub in-rank-order : rankOf (candA ∷ candB ∷ candC ∷ []) ≡ candA ∷ candC ∷ candB ∷ []
 in-rank-order = refl
 
--- "(9) steps 65,535 against 0, one grandmaster: 0 better"
-pub edge-9 : compareOf (set (cand (clock 1 248 7) 65535 7 1)) (set (cand (clock 1 248 7) 0 7 2)) ≡ BBetter
-unfolding compareOf sameOf fewerOf
-edge-9 = refl
-
 -- differing by one: the set with more steps was received at 100, below or above its sender, or sent by its own receiver
 pub one-step-better : compareOf (set (cand (clock 1 248 7) 1 7 1)) (set (cand (clock 1 248 7) 2 101 2)) ≡ ABetter
 unfolding compareOf sameOf fewerOf

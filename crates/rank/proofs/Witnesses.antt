@@ -29,10 +29,6 @@ cand p gm steps sender port =
       wrflags = 0;
     }
 
--- "(12) a ranked empty collection is empty"
-pub edge-12 : rankOf [] ≡ []
-edge-12 = refl
-
 -- "Rank order is A, C, B."
 pub a-c-b : rankOf (cand 1 7 5 1 1 ∷ cand 9 7 1 1 2 ∷ cand 5 8 0 1 3 ∷ []) ≡ cand 1 7 5 1 1 ∷ cand 5 8 0 1 3 ∷ cand 9 7 1 1 2 ∷ []
 a-c-b = refl

@@ -1,15 +1,13 @@
--- Worked inputs, computed: rows 3 to 8 of 01's "Worked at the edges", the eight windows, and histories of one port that
--- rule out an intake that does nothing, refuses everything or has one answer.
+-- Worked inputs, computed: the eight windows, and histories of one port that rule out an intake that does nothing,
+-- refuses everything or has one answer.
 use mathlib.Core.Path.{_≡_, refl}
-use mathlib.Core.Bool.{true, false}
 use mathlib.Core.List.{[], _∷_, map}
 use Prim.Native.Nat.{ℕ}
 use Rattle.refusal.specs.Choice.{refuse}
 use Rattle.refusal.specs.declared.Refusal.the-variants.{Backward, Stale, Full}
 use Rattle.senders.specs.declared.Notice.{Notice}
-use Rattle.senders.specs.declared.Record.{Record}
 use Rattle.senders.specs.declared.Plan.the-variants.{Refuse, Put}
-use Rattle.senders.specs.Record.{windowOf, isLive, isQualified, isNewer, freshOf, nextOf}
+use Rattle.senders.specs.Record.{windowOf, freshOf, nextOf}
 use Rattle.senders.specs.Port.{Port, emptySlot, tab, first, planOf, portAfter}
 
 -- a sender's Announce, by its clock and number
@@ -22,30 +20,6 @@ from clock n =
       steps = 0;
       wrflags = 0;
     }
-
-abbrev two : ℕ → ℕ → Record
-two older newest = record { notice = from 7 0; receipts = 2; newest = newest; older = older }
-
--- "(3) interval 1 s, receipts at 0 and 10^9: qualified at 4,000,000,000; (4) not at 4,000,000,001"
-pub edge-3 : isQualified (windowOf 0) 4000000000 (two 0 1000000000) ≡ true
-edge-3 = refl
-
-pub edge-4 : isQualified (windowOf 0) 4000000001 (two 0 1000000000) ≡ false
-edge-4 = refl
-
--- "(5) live at 5,000,000,000; (6) expired one later"
-pub edge-5 : isLive (windowOf 0) 5000000000 (two 0 1000000000) ≡ true
-edge-5 = refl
-
-pub edge-6 : isLive (windowOf 0) 5000000001 (two 0 1000000000) ≡ false
-edge-6 = refl
-
--- "(7) sequence 65,535 then 0 is newer; (8) 0 then 32,768 is STALE"
-pub edge-7 : isNewer 0 65535 ≡ true
-edge-7 = refl
-
-pub edge-8 : isNewer 32768 0 ≡ false
-edge-8 = refl
 
 -- four intervals of an eighth of a second to sixteen seconds: k = 0, 1, 2, 3, 4, -3, -2, -1 modulo 8
 pub windows : map windowOf (0 ∷ 1 ∷ 2 ∷ 3 ∷ 4 ∷ 5 ∷ 6 ∷ 7 ∷ []) ≡ 4000000000 ∷ 8000000000 ∷ 16000000000 ∷ 32000000000 ∷ 64000000000 ∷ 500000000 ∷ 1000000000 ∷ 2000000000 ∷ []
