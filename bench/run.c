@@ -25,7 +25,8 @@
 uint64_t CALL(TAKES);
 
 #ifdef EMPTY
-uint64_t __attribute__((noinline)) CALL(TAKES)
+/* weak, so that its arguments are handed over though it does not look at them */
+uint64_t __attribute__((noinline, weak)) CALL(TAKES)
 {
     __asm__ volatile("" : : "r"(s) : "memory");
     return 1000;
