@@ -1,5 +1,6 @@
 // An answer, put together in a lent buffer. Each function appends at a place and hands back the next place; what finds
 // no room is left out.
+use refusal::Outcome;
 use refusal::Refusal;
 
 pub fn put(out: &mut [u8], at: usize, c: u8) -> usize {
@@ -41,6 +42,14 @@ pub fn numbers(out: &mut [u8], at: usize, values: &[u64]) -> usize {
 pub fn refused(out: &mut [u8], at: usize, x: Refusal) -> usize {
     let to = text(out, at, b"refused");
     number(out, to, refusal::number(x) as u64)
+}
+
+// What a call that only does something answers.
+pub fn outcome(out: &mut [u8], at: usize, x: Outcome) -> usize {
+    match x {
+        Outcome::Done => text(out, at, b"ok"),
+        Outcome::Refused(r) => refused(out, at, r),
+    }
 }
 
 // The digits of a number, the first first.

@@ -10,7 +10,6 @@ use link::Settings;
 use link::State;
 use link::Stepped;
 use links::Taken;
-use refusal::Outcome;
 use tlv::wr::LinkMessage;
 
 // The largest u64.
@@ -47,13 +46,6 @@ fn settings(line: &[u8], from: Args) -> SettingsRead {
     }
 }
 
-fn outcome(out: &mut [u8], at: usize, x: Outcome) -> usize {
-    match x {
-        Outcome::Done => answer::text(out, at, b"ok"),
-        Outcome::Refused(r) => answer::refused(out, at, r),
-    }
-}
-
 fn link_settings_call(line: &[u8], words: &mut [u64; 72], out: &mut [u8], at: usize) -> usize {
     let p = args::unsigned(line, args::behind(12), 255);
     let port = (p.value % 256) as u8;
@@ -62,7 +54,7 @@ fn link_settings_call(line: &[u8], words: &mut [u64; 72], out: &mut [u8], at: us
         return at;
     }
     let set = s.settings;
-    outcome(out, at, links::set(words, port, set))
+    answer::outcome(out, at, links::set(words, port, set))
 }
 
 // What stands behind `start`: the parent's config and mode.

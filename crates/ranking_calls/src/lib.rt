@@ -234,7 +234,8 @@ fn graded(out: &mut [u8], at: usize, g: Grandmaster) -> usize {
     answer::clock(out, to, g.identity)
 }
 
-fn shown(out: &mut [u8], at: usize, c: Candidate) -> usize {
+// A blank and a candidate.
+pub fn shown(out: &mut [u8], at: usize, c: Candidate) -> usize {
     let g = c.grandmaster;
     let sender = c.sender;
     let to = graded(out, at, g);

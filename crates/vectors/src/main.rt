@@ -12,7 +12,7 @@ use settings::Settings;
 // A line may have this many characters.
 const LONGEST: usize = 300_000;
 
-// Where the program stands, but for the links: what was set, how much of a line has come, and how much of the answers
+// Where the program stands, but for links and records: what was set, how much of a line has come, and how much of the answers
 // waits to be written.
 struct World {
     settings: Settings,
@@ -60,11 +60,21 @@ fn stateless(line: &[u8], set: Settings, room: &mut [u8], out: &mut [u8], at: us
     computed(line, set, out, at)
 }
 
+// What an Announce is judged by.
+fn judged_by(set: Settings) -> ports::intake::Settings {
+    ports::intake::Settings {
+        domain: set.domain,
+        clock: set.clock,
+        magic: set.magic,
+    }
+}
+
 // The answer to a call; the same place where the line is none.
 fn call(
     line: &[u8],
     set: Settings,
     links: &mut [u64; 72],
+    records: &mut [u64; 1764],
     room: &mut [u8],
     out: &mut [u8],
     at: usize,
@@ -73,18 +83,30 @@ fn call(
     if to != at {
         return to;
     }
+    let to = intake_calls::answer(line, judged_by(set), records, room, out, at);
+    if to != at {
+        return to;
+    }
     stateless(line, set, room, out, at)
 }
 
-// What a line that sets something does to the links: a fresh clock has fresh ones.
-fn links_after(line: &[u8], links: &mut [u64; 72]) {
+// What a line that sets something does to links and records: a fresh clock has fresh ones.
+fn words_after(line: &[u8], links: &mut [u64; 72], records: &mut [u64; 1764]) {
     if lines::args::is_call(line, b"fresh") {
         link_calls::reset(links);
+        intake_calls::reset(records);
     }
 }
 
 // The answer to a line that is neither empty nor a comment.
-fn respond(line: &[u8], w: World, links: &mut [u64; 72], room: &mut [u8], out: &mut [u8]) -> World {
+fn respond(
+    line: &[u8],
+    w: World,
+    links: &mut [u64; 72],
+    records: &mut [u64; 1764],
+    room: &mut [u8],
+    out: &mut [u8],
+) -> World {
     let at = w.waiting;
     let was = w.settings;
     if LONGEST < line.len() {
@@ -97,14 +119,14 @@ fn respond(line: &[u8], w: World, links: &mut [u64; 72], room: &mut [u8], out: &
     let changed = settings::after(line, was);
     let set = changed.settings;
     if changed.done {
-        links_after(line, links);
+        words_after(line, links, records);
         return World {
             settings: set,
             length: 0,
             waiting: lines::answer::text(out, at, b"ok\n"),
         };
     }
-    let to = call(line, set, links, room, out, at);
+    let to = call(line, set, links, records, room, out, at);
     if to == at {
         return World {
             settings: set,
@@ -132,6 +154,7 @@ fn line_ended(
     line: &[u8],
     w: World,
     links: &mut [u64; 72],
+    records: &mut [u64; 1764],
     room: &mut [u8],
     out: &mut [u8],
 ) -> World {
@@ -143,7 +166,7 @@ fn line_ended(
             waiting: w.waiting,
         };
     }
-    let next = respond(line, w, links, room, out);
+    let next = respond(line, w, links, records, room, out);
     written(next, out)
 }
 
@@ -168,12 +191,20 @@ fn character(
     w: World,
     line: &mut [u8],
     links: &mut [u64; 72],
+    records: &mut [u64; 1764],
     room: &mut [u8],
     out: &mut [u8],
 ) -> World {
     let length = w.length;
     if c == b'\n' {
-        return line_ended(lines::args::front(line, length), w, links, room, out);
+        return line_ended(
+            lines::args::front(line, length),
+            w,
+            links,
+            records,
+            room,
+            out,
+        );
     }
     let set = w.settings;
     World {
@@ -188,13 +219,14 @@ fn characters(
     from: World,
     line: &mut [u8],
     links: &mut [u64; 72],
+    records: &mut [u64; 1764],
     room: &mut [u8],
     out: &mut [u8],
 ) -> World {
     let mut w = from;
     let mut i: usize = 0;
     while i < chunk.len() {
-        w = character(chunk[i], w, line, links, room, out);
+        w = character(chunk[i], w, line, links, records, room, out);
         i += 1;
     }
     w
@@ -211,13 +243,22 @@ fn some(
     chunk: &mut [u8],
     line: &mut [u8],
     links: &mut [u64; 72],
+    records: &mut [u64; 1764],
     room: &mut [u8],
     out: &mut [u8],
 ) -> Came {
     let got = libc::read(STDIN_FILENO, chunk);
     let n = io::count(got, chunk);
     Came {
-        world: characters(lines::args::front(chunk, n), w, line, links, room, out),
+        world: characters(
+            lines::args::front(chunk, n),
+            w,
+            line,
+            links,
+            records,
+            room,
+            out,
+        ),
         more: 0 < n,
     }
 }
@@ -229,6 +270,7 @@ fn all(
     chunk: &mut [u8],
     line: &mut [u8],
     links: &mut [u64; 72],
+    records: &mut [u64; 1764],
     room: &mut [u8],
     out: &mut [u8],
 ) -> World {
@@ -239,7 +281,7 @@ fn all(
     };
     while turns > 0 && s.more {
         let from = s.world;
-        s = some(from, chunk, line, links, room, out);
+        s = some(from, chunk, line, links, records, room, out);
         turns -= 1;
     }
     s.world
@@ -249,6 +291,7 @@ fn main() {
     let mut chunk = [0u8; 65536];
     let mut line = [0u8; LONGEST + 1];
     let mut links = [0u64; 72];
+    let mut records = [0u64; 1764];
     let mut room = [0u8; 150_017];
     let mut out = [0u8; 262_144];
     let w = World {
@@ -256,12 +299,21 @@ fn main() {
         length: 0,
         waiting: 0,
     };
-    let end = all(w, &mut chunk, &mut line, &mut links, &mut room, &mut out);
+    let end = all(
+        w,
+        &mut chunk,
+        &mut line,
+        &mut links,
+        &mut records,
+        &mut room,
+        &mut out,
+    );
     let length = end.length;
     let last = line_ended(
         lines::args::front(&line, length),
         end,
         &mut links,
+        &mut records,
         &mut room,
         &mut out,
     );

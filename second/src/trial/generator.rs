@@ -55,7 +55,7 @@ impl Generator {
         if self.calls.contains(&Call::Records) {
             if let Some(port) = refused_to_take(&vector) {
                 let records = history::records_line(&mut self.random, port);
-                self.coming.push_back(records);
+                self.coming.push_front(records);
             }
         }
         vector
@@ -137,7 +137,11 @@ impl Generator {
                 lines.remove(0)
             }
             Call::Interval => history::interval_line(random),
-            Call::Take => history::take_line(random, &self.clock),
+            Call::Take => {
+                let mut lines = history::take_lines(random, &self.clock);
+                self.coming.extend(lines.drain(1..));
+                lines.remove(0)
+            }
             Call::Candidates => history::candidates_line(random, &self.clock),
             Call::Records => history::any_records_line(random),
         }

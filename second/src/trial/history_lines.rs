@@ -11,8 +11,37 @@ use crate::engine::clock::Clock;
 use crate::engine::message::{Announce, Body, Header, MessageType, PortIdentity, LISTED_TYPES};
 use crate::engine::senders::{Record, Senders};
 
+/// Lines of `take`: mostly one, now and then a flood of new names.
+pub fn take_lines(random: &mut Random, clock: &Clock) -> Vec<Vec<u8>> {
+    if random.chance(1, 500) {
+        return flood(random, clock);
+    }
+    vec![take_line(random, clock)]
+}
+
+/// Announces on one port, each from a sender that was never heard before, at
+/// times that stand still or hardly run: more than the port has slots.
+fn flood(random: &mut Random, clock: &Clock) -> Vec<Vec<u8>> {
+    let port = asked_port(random);
+    let mut time = senders_of(clock, port).last_time;
+    let count = random.pick(&[17, 18, 33, 100]);
+    let mut lines = Vec::new();
+    for _ in 0..count {
+        time = time.saturating_add(random.below(2));
+        let header = Header {
+            domain: clock.domain,
+            source: new_name(random),
+            ..messages::header(random)
+        };
+        let body = announce_body(random);
+        let draft = Draft::sound(random, clock.magic, header, body);
+        lines.push(line_of_take(random, port, time, &draft));
+    }
+    lines
+}
+
 /// A line of `take`.
-pub fn take_line(random: &mut Random, clock: &Clock) -> Vec<u8> {
+fn take_line(random: &mut Random, clock: &Clock) -> Vec<u8> {
     let port = asked_port(random);
     let senders = senders_of(clock, port);
     let time = time_to_take(random, senders);
@@ -20,6 +49,11 @@ pub fn take_line(random: &mut Random, clock: &Clock) -> Vec<u8> {
     if random.chance(1, 5) {
         draft.weather(random, clock.magic);
     }
+    line_of_take(random, port, time, &draft)
+}
+
+/// The line of `take` for a port, a time and a message.
+fn line_of_take(random: &mut Random, port: u8, time: u64, draft: &Draft) -> Vec<u8> {
     CallLine::named("take")
         .number(random, port)
         .number(random, time)
@@ -214,15 +248,20 @@ fn source(random: &mut Random, clock: &Clock, held: Option<Record>) -> PortIdent
             clock: clock.identity,
             port: random.below(20) as u16,
         },
-        (18..=21, _) => PortIdentity {
-            clock: random.word(),
-            port: 1,
-        },
+        (18..=21, _) => new_name(random),
         (22, _) => values::identity(random),
         _ => PortIdentity {
             clock: 0x001b_19ff_fe00_0000 + random.below(18),
             port: 1,
         },
+    }
+}
+
+/// A sender that was hardly heard before.
+fn new_name(random: &mut Random) -> PortIdentity {
+    PortIdentity {
+        clock: random.word(),
+        port: 1,
     }
 }
 

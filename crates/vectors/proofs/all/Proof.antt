@@ -6,10 +6,10 @@ use Rattle.vectors.proofs.all.Statement.{statement}
 use Rattle.vectors.proofs.all.Tie as tie
 
 abbrev Inv-loop : tie.InvT-loop
-Inv-loop chunk₀ line₀ links₀ room₀ out₀ turns₀ s₀ chunk line links room out turns s = (length chunk ≡ length chunk₀) × (length line ≡ length line₀) × (length room ≡ length room₀) × (length out ≡ length out₀)
+Inv-loop chunk₀ line₀ links₀ records₀ room₀ out₀ turns₀ s₀ chunk line links records room out turns s = (length chunk ≡ length chunk₀) × (length line ≡ length line₀) × (length room ≡ length room₀) × (length out ≡ length out₀)
 
 abbrev μ-loop : tie.MeasureT-loop
-μ-loop chunk₀ line₀ links₀ room₀ out₀ turns₀ s₀ chunk line links room out turns s = turns
+μ-loop chunk₀ line₀ links₀ records₀ room₀ out₀ turns₀ s₀ chunk line links records room out turns s = turns
 
 loop-holds : tie.Need-loop-holds Inv-loop μ-loop
 loop-holds c = search needs

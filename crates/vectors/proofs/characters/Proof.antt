@@ -7,10 +7,10 @@ use Rattle.vectors.proofs.characters.Statement.{statement}
 use Rattle.vectors.proofs.characters.Tie as tie
 
 abbrev Inv-loop : tie.InvT-loop
-Inv-loop chunk line₀ links₀ room₀ out₀ w₀ i₀ line links room out w i = (i ≤ length chunk) × (length line ≡ length line₀) × (length room ≡ length room₀) × (length out ≡ length out₀)
+Inv-loop chunk line₀ links₀ records₀ room₀ out₀ w₀ i₀ line links records room out w i = (i ≤ length chunk) × (length line ≡ length line₀) × (length room ≡ length room₀) × (length out ≡ length out₀)
 
 abbrev μ-loop : tie.MeasureT-loop
-μ-loop chunk line₀ links₀ room₀ out₀ w₀ i₀ line links room out w i = length chunk - i
+μ-loop chunk line₀ links₀ records₀ room₀ out₀ w₀ i₀ line links records room out w i = length chunk - i
 
 loop-holds : tie.Need-loop-holds Inv-loop μ-loop
 loop-holds c = search needs
