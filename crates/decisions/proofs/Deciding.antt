@@ -45,14 +45,14 @@ neither : (b t : Bool) → (b || t) ≡ false → (b ≡ false) × (t ≡ false)
 neither true t h = (h, cc)
 neither false t h = (refl, h)
 
-all-tab : {A : Type 0} (P : A → Type 0) (n : ℕ) (f : ℕ → A) → All P (tab n f) → (i : ℕ) → i < n → P (f i)
+pub all-tab : {A : Type 0} (P : A → Type 0) (n : ℕ) (f : ℕ → A) → All P (tab n f) → (i : ℕ) → i < n → P (f i)
 unfolding tab
 all-tab P zero f h i g = absurd (not-suc-le-zero g)
 all-tab P (suc n) f h zero g = h .0
 all-tab P (suc n) f h (suc i) g = all-tab P n (λ k. f (suc k)) (h .1) i (le-of-suc-le-suc g)
 
 module _ (own : Grandmaster) (ws : List ℕ) (t : ℕ) where
-  none-late : (ps : List ℕ) → anyLate ws t ps ≡ false → All (λ p. ltb t (portAt ws p .last) ≡ false) ps
+  pub none-late : (ps : List ℕ) → anyLate ws t ps ≡ false → All (λ p. ltb t (portAt ws p .last) ≡ false) ps
   unfolding anyLate
   none-late [] h = tt
   none-late (p ∷ ps) h =

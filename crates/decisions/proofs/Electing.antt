@@ -16,11 +16,11 @@ use Rattle.rank.specs.declared.Ranking.{Ranking}
 use Rattle.rank.specs.declared.Ranked.{Ranked}
 use Rattle.rank.specs.Order.{earlierOf}
 use Rattle.rank.specs.Best.{best}
-use Rattle.rank.specs.Ranked.{isPort, portOf}
+use Rattle.rank.specs.Ranked.{isPort, allValid, portOf}
 use Rattle.rank.specs.Calls.{refusedOf, doneOf, startOf}
 use Rattle.rank.proofs.Best.{All, cases, rank-swap}
 use Rattle.rank.proofs.Order.{ordered}
-use Rattle.rank.proofs.Merging.{R, AllValid, defined, insert-rank, valid-sound, all-append}
+use Rattle.rank.proofs.Merging.{R, AllValid, defined, insert-rank, valid-sound, both}
 use Rattle.senders.specs.declared.Record.{Record}
 use Rattle.senders.specs.declared.Asked.{Asked}
 use Rattle.senders.specs.declared.Asked.the-variants.{Refused}
@@ -67,6 +67,11 @@ pub own-candidates : (p : ℕ) (q : Port) (t : ℕ) → Own p (candidatesOf p q 
 unfolding candidatesOf
 own-candidates p q t = own-by p (kept (isQualified (windowOf (q .e)) t) (q .slots))
 
+valid-append : (s t : List Candidate) → allValid s ≡ true → allValid t ≡ true → allValid (s ++ t) ≡ true
+valid-append [] t h k = k
+valid-append (x ∷ xs) t h k =
+    let b = both (isPort (x .port)) (allValid xs) h in rw (b .0) (valid-append xs t (b .1) k)
+
 module _ (ws : List ℕ) (t : ℕ) where
   abbrev candidates : ℕ → List Candidate
   candidates p = candidatesOf p (portAt ws p) t
@@ -75,11 +80,14 @@ module _ (ws : List ℕ) (t : ℕ) where
   late p = ltb t (portAt ws p .last)
 
   -- valid for ranking
-  pub heard-valid : (ps : List ℕ) → Ports ps → AllValid (heardOn ws t ps)
+  pub heard-passes : (ps : List ℕ) → Ports ps → allValid (heardOn ws t ps) ≡ true
   unfolding heardOn
-  heard-valid [] h = tt
-  heard-valid (p ∷ ps) h =
-      all-append _ (candidates p) (heardOn ws t ps) (valid-sound (candidates p) (candidates-valid p (portAt ws p) t (h .0))) (heard-valid ps (h .1))
+  heard-passes [] h = refl
+  heard-passes (p ∷ ps) h =
+      valid-append (candidates p) (heardOn ws t ps) (candidates-valid p (portAt ws p) t (h .0)) (heard-passes ps (h .1))
+
+  pub heard-valid : (ps : List ℕ) → Ports ps → AllValid (heardOn ws t ps)
+  heard-valid ps h = valid-sound (heardOn ws t ps) (heard-passes ps h)
 
   -- what a port of the clock answers
   best-is : (p : ℕ) → isPort p ≡ true

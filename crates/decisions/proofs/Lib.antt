@@ -2,3 +2,5 @@ pub mod Bests
 pub mod Electing
 pub mod Filling
 pub mod Deciding
+pub mod Cards
+pub mod Promises
