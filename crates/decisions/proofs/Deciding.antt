@@ -51,13 +51,14 @@ all-tab P zero f h i g = absurd (not-suc-le-zero g)
 all-tab P (suc n) f h zero g = h .0
 all-tab P (suc n) f h (suc i) g = all-tab P n (λ k. f (suc k)) (h .1) i (le-of-suc-le-suc g)
 
-module _ (own : Grandmaster) (ws : List ℕ) (t : ℕ) where
-  pub none-late : (ps : List ℕ) → anyLate ws t ps ≡ false → All (λ p. ltb t (portAt ws p .last) ≡ false) ps
-  unfolding anyLate
-  none-late [] h = tt
-  none-late (p ∷ ps) h =
-      let b = neither (ltb t (portAt ws p .last)) (anyLate ws t ps) h in (b .0, none-late ps (b .1))
+-- where no port is late, none of them is
+pub none-late : (ws : List ℕ) (t : ℕ) (ps : List ℕ) → anyLate ws t ps ≡ false → All (λ p. ltb t (portAt ws p .last) ≡ false) ps
+unfolding anyLate
+none-late ws t [] h = tt
+none-late ws t (p ∷ ps) h =
+    let b = neither (ltb t (portAt ws p .last)) (anyLate ws t ps) h in (b .0, none-late ws t ps (b .1))
 
+module _ (own : Grandmaster) (ws : List ℕ) (t : ℕ) where
   -- THE LIST IS A RANKED LIST
   pub list-ranked : isRanked (pack (listAt ws t)) ≡ true
   list-ranked = ranked-passes (heardOn ws t everyPort) (heard-valid ws t everyPort every-port)
@@ -69,7 +70,7 @@ module _ (own : Grandmaster) (ws : List ℕ) (t : ℕ) where
     unfolding decisionAt refuse
     decided i h =
         let p = all-tab (λ p. isPort p ≡ true) 18 suc every-port i h in
-        let l = all-tab (λ p. ltb t (portAt ws p .last) ≡ false) 18 suc (none-late everyPort none) i h in
+        let l = all-tab (λ p. ltb t (portAt ws p .last) ≡ false) 18 suc (none-late ws t everyPort none) i h in
         let b : bestOn ws (suc i) t ≡ bestOf (suc i) (portAt ws (suc i)) t = rw (p, l) in
         decides own (pack (listAt ws t)) (suc i) (erbestOf (bestOn ws (suc i) t)) p list-ranked
         ∙ rw (b, unpack-pack (listAt ws t))

@@ -20,7 +20,8 @@ use Rattle.rank.specs.Ranked.{isPort, allValid, portOf}
 use Rattle.rank.specs.Calls.{refusedOf, doneOf, startOf}
 use Rattle.rank.proofs.Best.{All, cases, rank-swap}
 use Rattle.rank.proofs.Order.{ordered}
-use Rattle.rank.proofs.Merging.{R, AllValid, defined, insert-rank, valid-sound, both}
+use Rattle.rank.proofs.Merging.{R, AllValid, defined, insert-rank, valid-sound}
+use Rattle.rank.proofs.Laws.{valid-append}
 use Rattle.senders.specs.declared.Record.{Record}
 use Rattle.senders.specs.declared.Asked.{Asked}
 use Rattle.senders.specs.declared.Asked.the-variants.{Refused}
@@ -66,11 +67,6 @@ own-by p (r ∷ l) = (refl, own-by p l)
 pub own-candidates : (p : ℕ) (q : Port) (t : ℕ) → Own p (candidatesOf p q t)
 unfolding candidatesOf
 own-candidates p q t = own-by p (kept (isQualified (windowOf (q .e)) t) (q .slots))
-
-valid-append : (s t : List Candidate) → allValid s ≡ true → allValid t ≡ true → allValid (s ++ t) ≡ true
-valid-append [] t h k = k
-valid-append (x ∷ xs) t h k =
-    let b = both (isPort (x .port)) (allValid xs) h in rw (b .0) (valid-append xs t (b .1) k)
 
 module _ (ws : List ℕ) (t : ℕ) where
   abbrev candidates : ℕ → List Candidate

@@ -4,3 +4,5 @@ pub mod Filling
 pub mod Deciding
 pub mod Cards
 pub mod Promises
+pub mod Determined
+pub mod Witnesses

@@ -10,7 +10,7 @@ use lib.ListN.{getD}
 use borrow.Author.Tests.{eqb-true, ltb-true}
 use Rattle.refusal.specs.Choice.{pick, refuse}
 use Rattle.refusal.specs.declared.Refusal.{Refusal}
-use Rattle.refusal.specs.declared.Refusal.the-variants.{Backward}
+use Rattle.refusal.specs.declared.Refusal.the-variants.{Port, Backward}
 use Rattle.refusal.specs.declared.Outcome.the-variants as outcome
 use Rattle.rank.specs.declared.Grandmaster.{Grandmaster}
 use Rattle.rank.specs.declared.Candidate.{Candidate}
@@ -20,8 +20,8 @@ use Rattle.rank.specs.Calls.{refusedOf, doneOf}
 use Rattle.rank.proofs.Best.{cases}
 use Rattle.rank.proofs.Merging.{unpack-pack, port-sound, ranked-valid, AllValid}
 use Rattle.senders.specs.declared.Asked.{Asked}
-use Rattle.senders.specs.declared.Asked.the-variants.{Refused}
-use Rattle.senders.specs.Record.{isQualified, windowOf}
+use Rattle.senders.specs.declared.Asked.the-variants.{Refused, Absent, Found}
+use Rattle.senders.specs.Record.{windowOf, isQualified, candidateOf}
 use Rattle.senders.specs.Port.{slotOf, bestOf, candidateIn}
 use Rattle.slots.proofs.Laws.{getD-tab}
 use Rattle.ports.specs.Words.{portAt}
@@ -148,3 +148,54 @@ module _ (own : Grandmaster) (ws : List ℕ) (t : ℕ) where
             ∙ ap (λ (p : ℕ). codeOf (decisionAt own ws t p)) e
             ∙ ap codeOf (parent-s1 own l x (erbestOf (bestOf (x .port) (portAt ws (x .port)) t)) h),
       )
+
+-- ---- refused
+-- a port whose candidates are refused with 11
+pub record Late (ws : List ℕ) (t : ℕ) : Type 0 where
+  pub port : ℕ
+  pub refused : (slot : ℕ) → candidateOn ws port slot t ≡ Refused Backward
+
+module _ (ws : List ℕ) (t : ℕ) where
+  late-when : (p slot : ℕ) → candidateOn ws p slot t ≡ Refused Backward → (isPort p ≡ true) × (ltb t (portAt ws p .last) ≡ true)
+  unfolding candidateIn refuse
+  late-when p slot h =
+      cases (isPort p)
+      (λ i.
+      cases (ltb t (portAt ws p .last))
+      (λ l. (i, l))
+      (λ l.
+      cases (isQualified (windowOf (portAt ws p .e)) t (slotOf (portAt ws p) slot))
+      (λ q. let z : Found (candidateOf p (slotOf (portAt ws p) slot)) ≡ Refused Backward = rw (i, l, q) at h in (i, cc))
+      (λ q. let z : Absent ≡ Refused Backward = rw (i, l, q) at h in (i, cc))))
+      (λ i. let z : Refused Port ≡ Refused Backward = rw i at h in (cc, cc))
+
+  late-in : (ps : List ℕ) → Ports ps → anyLate ws t ps ≡ true → Late ws t
+  unfolding anyLate refuse
+  late-in [] h e = absurd (let z : _≡_ {A = ℕ} 0 1 = cc in omega arith)
+  late-in (p ∷ ps) h e =
+      cases (ltb t (portAt ws p .last))
+      (λ l. record { port = p; refused = λ slot. rw (h .0, l) })
+      (λ l. late-in ps (h .1) (rw l at e))
+
+  -- WHERE A PORT'S CANDIDATES ARE REFUSED WITH 11, SO IS THE WHOLE
+  pub late-refuses : (p slot : ℕ) → candidateOn ws p slot t ≡ Refused Backward → electedOf ws t everyPort ≡ refusedOf Backward
+  unfolding electedOf refuse
+  late-refuses p slot h =
+      let l = late-when p slot h in
+      let b = port-sound p (l .0) in
+      let q : suc (p - 1) ≡ p = omega (arith, b .0) in
+      cases (anyLate ws t everyPort)
+      (λ e. rw e)
+      (λ e.
+      let n = all-tab (λ k. ltb t (portAt ws k .last) ≡ false) 18 suc (none-late ws t everyPort e) (p - 1) (omega (arith, b .0, b .1)) in
+      let m : ltb t (portAt ws p .last) ≡ false = subst (λ (k : ℕ). ltb t (portAt ws k .last) ≡ false) q n in
+      let k = l .1 in
+      cc)
+
+  -- AND NOTHING ELSE IS REFUSED
+  pub refused-late : (x : Refusal) → electedOf ws t everyPort .outcome ≡ outcome.Refused x → (x ≡ Backward) × Late ws t
+  unfolding electedOf refuse
+  refused-late x h =
+      cases (anyLate ws t everyPort)
+      (λ e. let z : outcome.Refused Backward ≡ outcome.Refused x = rw e at h in (cc, late-in everyPort every-port e))
+      (λ e. let z : outcome.Done ≡ outcome.Refused x = rw e at h in absurd (let y : _≡_ {A = ℕ} 0 1 = cc in omega arith))

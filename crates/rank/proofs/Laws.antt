@@ -68,7 +68,7 @@ merges : (a b : Ranked) → isRanked a ≡ true → isRanked b ≡ true → merg
 unfolding refuse
 merges a b ha hb = rw (ha, hb)
 
-valid-append : (s t : List Candidate) → allValid s ≡ true → allValid t ≡ true → allValid (s ++ t) ≡ true
+pub valid-append : (s t : List Candidate) → allValid s ≡ true → allValid t ≡ true → allValid (s ++ t) ≡ true
 valid-append [] t h k = k
 valid-append (x ∷ xs) t h k =
     let b = both (isPort (x .port)) (allValid xs) h in rw (b .0) (valid-append xs t (b .1) k)
