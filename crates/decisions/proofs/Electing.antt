@@ -16,7 +16,7 @@ use Rattle.rank.specs.declared.Ranking.{Ranking}
 use Rattle.rank.specs.declared.Ranked.{Ranked}
 use Rattle.rank.specs.Order.{earlierOf}
 use Rattle.rank.specs.Best.{best}
-use Rattle.rank.specs.Ranked.{isPort, allValid, portOf}
+use Rattle.rank.specs.Ranked.{isPort, portOf, allValid, rankOf}
 use Rattle.rank.specs.Calls.{refusedOf, doneOf, startOf}
 use Rattle.rank.proofs.Best.{All, cases, rank-swap}
 use Rattle.rank.proofs.Order.{ordered}
@@ -32,7 +32,7 @@ use Rattle.slots.proofs.Laws.{length-tab, getD-tab}
 use Rattle.ports.specs.Words.{portAt}
 use Rattle.ports.specs.Asking.{bestOn}
 use Rattle.decisions.specs.Elected.{everyPort, anyLate, heardOn, electedOf, withBest}
-use Rattle.decisions.proofs.Bests.{Own, One, one-best, best-counts}
+use Rattle.decisions.proofs.Bests.{Own, One, one-best, rank-best, best-counts}
 
 -- ports of the clock alone
 abbrev pub Ports : List ℕ → Type 0
@@ -67,6 +67,13 @@ own-by p (r ∷ l) = (refl, own-by p l)
 pub own-candidates : (p : ℕ) (q : Port) (t : ℕ) → Own p (candidatesOf p q t)
 unfolding candidatesOf
 own-candidates p q t = own-by p (kept (isQualified (windowOf (q .e)) t) (q .slots))
+
+-- "Erbest a port's best" is the first of the ranked list of the port's candidates
+pub best-first : (p : ℕ) (q : Port) (t : ℕ) → isPort p ≡ true → bestOf p q t ≡ headOf (rankOf (candidatesOf p q t))
+unfolding bestOf
+best-first p q t h =
+    let s = candidatesOf p q t in
+    ap headOf (sym (rank-best p s (own-candidates p q t)) ∙ defined s (valid-sound s (candidates-valid p q t h)))
 
 module _ (ws : List ℕ) (t : ℕ) where
   abbrev candidates : ℕ → List Candidate
