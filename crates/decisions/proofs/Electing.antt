@@ -4,6 +4,7 @@ use mathlib.Core.Path.{_≡_, refl, sym, ap, ap₂, _∙_}
 use mathlib.Core.List.{List, [], _∷_, _++_, map, append-nil, append-assoc}
 use mathlib.Core.Bool.{Bool, true, false}
 use native.Mathlib.Omega.{arith}
+use native.Mathlib.Nat.{le-of-suc-le-suc, not-suc-le-zero}
 use lib.Dec.{ltb}
 use lib.ListN.{drop}
 use lib.Seq.{drop-cons}
@@ -23,7 +24,6 @@ use Rattle.rank.proofs.Order.{ordered}
 use Rattle.rank.proofs.Merging.{R, AllValid, defined, insert-rank, valid-sound}
 use Rattle.rank.proofs.Laws.{valid-append}
 use Rattle.senders.specs.declared.Record.{Record}
-use Rattle.senders.specs.declared.Asked.{Asked}
 use Rattle.senders.specs.declared.Asked.the-variants.{Refused}
 use Rattle.senders.specs.Record.{windowOf, isQualified, candidateOf}
 use Rattle.senders.specs.Port.{Port, tab, kept, candidatesOf, headOf, bestOf}
@@ -38,10 +38,17 @@ use Rattle.decisions.proofs.Bests.{Own, One, one-best, rank-best, best-
 abbrev pub Ports : List ℕ → Type 0
 Ports ps = All (λ p. isPort p ≡ true) ps
 
+-- of a table, each entry
 tab-all : {A : Type 0} (P : A → Type 0) (n : ℕ) (f : ℕ → A) → ((i : ℕ) → i < n → P (f i)) → All P (tab n f)
 unfolding tab
 tab-all P zero f h = tt
 tab-all P (suc n) f h = (h 0 (suc-le-suc zero-le), tab-all P n (λ i. f (suc i)) (λ i g. h (suc i) (suc-le-suc g)))
+
+pub all-tab : {A : Type 0} (P : A → Type 0) (n : ℕ) (f : ℕ → A) → All P (tab n f) → (i : ℕ) → i < n → P (f i)
+unfolding tab
+all-tab P zero f h i g = absurd (not-suc-le-zero g)
+all-tab P (suc n) f h zero g = h .0
+all-tab P (suc n) f h (suc i) g = all-tab P n (λ k. f (suc k)) (h .1) i (le-of-suc-le-suc g)
 
 pub every-port : Ports everyPort
 every-port = tab-all (λ p. isPort p ≡ true) 18 suc (λ i h. simp (le-leb 1 (suc i) (omega arith), le-leb (suc i) 18 (omega arith)))

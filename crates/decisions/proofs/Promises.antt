@@ -3,7 +3,7 @@
 use Prim.Native.Nat.{ℕ, suc, _-_, _≤_, _<_}
 use mathlib.Core.Path.{_≡_, refl, sym, ap, subst, _∙_}
 use mathlib.Core.List.{List, [], _∷_}
-use mathlib.Core.Bool.{Bool, true, false, _&&_, _||_}
+use mathlib.Core.Bool.{Bool, true, false, _&&_}
 use native.Mathlib.Omega.{arith}
 use lib.Dec.{ltb, leb, eqb}
 use lib.ListN.{getD}
@@ -14,12 +14,10 @@ use Rattle.refusal.specs.declared.Refusal.the-variants.{Port, Backward}
 use Rattle.refusal.specs.declared.Outcome.the-variants as outcome
 use Rattle.rank.specs.declared.Grandmaster.{Grandmaster}
 use Rattle.rank.specs.declared.Candidate.{Candidate}
-use Rattle.rank.specs.declared.Ranking.{Ranking}
-use Rattle.rank.specs.Ranked.{isPort, pack, unpack, isRanked, holdsOf}
-use Rattle.rank.specs.Calls.{refusedOf, doneOf}
+use Rattle.rank.specs.Ranked.{isPort, pack, holdsOf}
+use Rattle.rank.specs.Calls.{refusedOf}
 use Rattle.rank.proofs.Best.{cases}
 use Rattle.rank.proofs.Merging.{unpack-pack, port-sound, ranked-valid, AllValid}
-use Rattle.senders.specs.declared.Asked.{Asked}
 use Rattle.senders.specs.declared.Asked.the-variants.{Refused, Absent, Found}
 use Rattle.senders.specs.Record.{windowOf, isQualified, candidateOf}
 use Rattle.senders.specs.Port.{slotOf, bestOf, candidateIn}
@@ -30,12 +28,11 @@ use Rattle.decide.specs.declared.Erbest.{Erbest}
 use Rattle.decide.specs.declared.Decision.{Decision}
 use Rattle.decide.specs.declared.Decision.the-variants.{M1, M2, M3, P1, P2, S1, S2}
 use Rattle.decide.specs.Deciding.{ownBeats, beatsErbest, nearerOf, decisionOf}
-use Rattle.decisions.specs.declared.Leader.{Leader}
 use Rattle.decisions.specs.declared.Leader.the-variants.{Ours, Master}
 use Rattle.decisions.specs.Elected.{everyPort, anyLate, electedOf}
-use Rattle.decisions.specs.Decisions.{codeOf, erbestOf, listAt, decisionAt, octetsAt, leads, parentBy, backupsOf, parentOf, followedBy}
-use Rattle.decisions.proofs.Electing.{Ports, every-port}
-use Rattle.decisions.proofs.Deciding.{none-late, all-tab, list-ranked, follows}
+use Rattle.decisions.specs.Decisions.{codeOf, erbestOf, listAt, decisionAt, octetsAt, leads, parentBy, backupsOf, followedBy}
+use Rattle.decisions.proofs.Electing.{Ports, all-tab, every-port}
+use Rattle.decisions.proofs.Deciding.{none-late, list-ranked, follows}
 
 unlike : {G : Type 0} {d e : Decision} → ltb (codeOf d) (codeOf e) ≡ true → d ≡ e → G
 unlike {G} {d} {e} h q =
