@@ -3,11 +3,8 @@
 use Prim.Native.Nat.{ℕ}
 use mathlib.Core.Path.{_≡_, refl, sym, ap, ap₂, _∙_}
 use mathlib.Core.List.{List, [], _∷_, _++_}
-use mathlib.Core.Bool.{true}
-use lib.Dec.{eqb}
 use lib.ListN.{take}
 use borrow.Author.Tests.{eq-eqb}
-use Rattle.refusal.specs.Choice.{pick}
 use Rattle.rank.specs.declared.Candidate.{Candidate}
 use Rattle.rank.specs.Order.{earlierOf}
 use Rattle.rank.specs.Best.{better, best, sink}

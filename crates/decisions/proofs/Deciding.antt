@@ -1,11 +1,10 @@
 -- Deciding every port by the ranked list of all of them: nothing is refused here, and the calls of a single port give the
 -- decisions that are defined.
-use Prim.Native.Nat.{ℕ, zero, suc, _<_, zero-le, suc-le-suc}
-use native.Mathlib.Nat.{le-of-suc-le-suc, not-suc-le-zero}
+use Prim.Native.Nat.{ℕ, suc, _<_}
 use mathlib.Core.Path.{_≡_, refl, sym, ap, subst, _∙_}
 use mathlib.Core.List.{List, [], _∷_}
 use mathlib.Core.Bool.{Bool, true, false, _&&_, _||_}
-use lib.Dec.{ltb, leb, eqb}
+use lib.Dec.{ltb, leb}
 use borrow.Author.Tests.{le-leb, eq-eqb}
 use Rattle.refusal.specs.Choice.{pick, refuse}
 use Rattle.refusal.specs.declared.Refusal.{Refusal}
@@ -15,7 +14,7 @@ use Rattle.rank.specs.declared.Grandmaster.{Grandmaster}
 use Rattle.rank.specs.declared.Candidate.{Candidate}
 use Rattle.rank.specs.declared.Ranked.{Ranked}
 use Rattle.rank.specs.declared.Ranking.{Ranking}
-use Rattle.rank.specs.Ranked.{isPort, rankOf, pack, unpack, isRanked}
+use Rattle.rank.specs.Ranked.{isPort, pack, unpack, isRanked}
 use Rattle.rank.specs.Calls.{refusedOf, doneOf}
 use Rattle.rank.proofs.Best.{All, cases}
 use Rattle.rank.proofs.Merging.{AllValid, unpack-pack, ranked-valid, ranked-passes}
@@ -25,15 +24,13 @@ use Rattle.ports.specs.Words.{portAt}
 use Rattle.ports.specs.Asking.{bestOn}
 use Rattle.decide.specs.declared.Erbest.{Erbest}
 use Rattle.decide.specs.declared.Erbest.the-variants.{Absent}
-use Rattle.decide.specs.declared.Decision.{Decision}
 use Rattle.decide.specs.declared.Answer.{Answer}
 use Rattle.decide.specs.declared.Answer.the-variants.{Decided}
 use Rattle.decide.specs.Deciding.{ownBeats, beatsErbest, decisionOf, decideOf}
-use Rattle.decisions.specs.declared.Leader.{Leader}
 use Rattle.decisions.specs.declared.Leader.the-variants.{Ours, Master}
 use Rattle.decisions.specs.Elected.{everyPort, anyLate, heardOn, electedOf}
-use Rattle.decisions.specs.Decisions.{codeOf, erbestOf, listAt, decisionAt, octetsAt, outAfter, octetOf, octetBy, octetsBy, leads, parentBy, parentOf, followedBy, chosenBy}
-use Rattle.decisions.proofs.Electing.{Ports, every-port, heard-valid}
+use Rattle.decisions.specs.Decisions.{erbestOf, listAt, decisionAt, octetsAt, outAfter, octetOf, octetsBy, leads, parentOf, followedBy, chosenBy}
+use Rattle.decisions.proofs.Electing.{all-tab, every-port, heard-valid}
 
 -- a port of the clock and a ranked list: decided
 pub decides : (own : Grandmaster) (list : Ranked) (port : ℕ) (best : Erbest) → isPort port ≡ true → isRanked list ≡ true
@@ -45,19 +42,14 @@ neither : (b t : Bool) → (b || t) ≡ false → (b ≡ false) × (t ≡ false)
 neither true t h = (h, cc)
 neither false t h = (refl, h)
 
-all-tab : {A : Type 0} (P : A → Type 0) (n : ℕ) (f : ℕ → A) → All P (tab n f) → (i : ℕ) → i < n → P (f i)
-unfolding tab
-all-tab P zero f h i g = absurd (not-suc-le-zero g)
-all-tab P (suc n) f h zero g = h .0
-all-tab P (suc n) f h (suc i) g = all-tab P n (λ k. f (suc k)) (h .1) i (le-of-suc-le-suc g)
+-- where no port is late, none of them is
+pub none-late : (ws : List ℕ) (t : ℕ) (ps : List ℕ) → anyLate ws t ps ≡ false → All (λ p. ltb t (portAt ws p .last) ≡ false) ps
+unfolding anyLate
+none-late ws t [] h = tt
+none-late ws t (p ∷ ps) h =
+    let b = neither (ltb t (portAt ws p .last)) (anyLate ws t ps) h in (b .0, none-late ws t ps (b .1))
 
 module _ (own : Grandmaster) (ws : List ℕ) (t : ℕ) where
-  none-late : (ps : List ℕ) → anyLate ws t ps ≡ false → All (λ p. ltb t (portAt ws p .last) ≡ false) ps
-  unfolding anyLate
-  none-late [] h = tt
-  none-late (p ∷ ps) h =
-      let b = neither (ltb t (portAt ws p .last)) (anyLate ws t ps) h in (b .0, none-late ps (b .1))
-
   -- THE LIST IS A RANKED LIST
   pub list-ranked : isRanked (pack (listAt ws t)) ≡ true
   list-ranked = ranked-passes (heardOn ws t everyPort) (heard-valid ws t everyPort every-port)
@@ -69,7 +61,7 @@ module _ (own : Grandmaster) (ws : List ℕ) (t : ℕ) where
     unfolding decisionAt refuse
     decided i h =
         let p = all-tab (λ p. isPort p ≡ true) 18 suc every-port i h in
-        let l = all-tab (λ p. ltb t (portAt ws p .last) ≡ false) 18 suc (none-late everyPort none) i h in
+        let l = all-tab (λ p. ltb t (portAt ws p .last) ≡ false) 18 suc (none-late ws t everyPort none) i h in
         let b : bestOn ws (suc i) t ≡ bestOf (suc i) (portAt ws (suc i)) t = rw (p, l) in
         decides own (pack (listAt ws t)) (suc i) (erbestOf (bestOn ws (suc i) t)) p list-ranked
         ∙ rw (b, unpack-pack (listAt ws t))

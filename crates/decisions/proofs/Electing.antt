@@ -4,6 +4,7 @@ use mathlib.Core.Path.{_≡_, refl, sym, ap, ap₂, _∙_}
 use mathlib.Core.List.{List, [], _∷_, _++_, map, append-nil, append-assoc}
 use mathlib.Core.Bool.{Bool, true, false}
 use native.Mathlib.Omega.{arith}
+use native.Mathlib.Nat.{le-of-suc-le-suc, not-suc-le-zero}
 use lib.Dec.{ltb}
 use lib.ListN.{drop}
 use lib.Seq.{drop-cons}
@@ -16,13 +17,13 @@ use Rattle.rank.specs.declared.Ranking.{Ranking}
 use Rattle.rank.specs.declared.Ranked.{Ranked}
 use Rattle.rank.specs.Order.{earlierOf}
 use Rattle.rank.specs.Best.{best}
-use Rattle.rank.specs.Ranked.{isPort, portOf}
+use Rattle.rank.specs.Ranked.{isPort, portOf, allValid, rankOf}
 use Rattle.rank.specs.Calls.{refusedOf, doneOf, startOf}
 use Rattle.rank.proofs.Best.{All, cases, rank-swap}
 use Rattle.rank.proofs.Order.{ordered}
-use Rattle.rank.proofs.Merging.{R, AllValid, defined, insert-rank, valid-sound, all-append}
+use Rattle.rank.proofs.Merging.{R, AllValid, defined, insert-rank, valid-sound}
+use Rattle.rank.proofs.Laws.{valid-append}
 use Rattle.senders.specs.declared.Record.{Record}
-use Rattle.senders.specs.declared.Asked.{Asked}
 use Rattle.senders.specs.declared.Asked.the-variants.{Refused}
 use Rattle.senders.specs.Record.{windowOf, isQualified, candidateOf}
 use Rattle.senders.specs.Port.{Port, tab, kept, candidatesOf, headOf, bestOf}
@@ -31,16 +32,23 @@ use Rattle.slots.proofs.Laws.{length-tab, getD-tab}
 use Rattle.ports.specs.Words.{portAt}
 use Rattle.ports.specs.Asking.{bestOn}
 use Rattle.decisions.specs.Elected.{everyPort, anyLate, heardOn, electedOf, withBest}
-use Rattle.decisions.proofs.Bests.{Own, One, one-best, best-counts}
+use Rattle.decisions.proofs.Bests.{Own, One, one-best, rank-best, best-counts}
 
 -- ports of the clock alone
 abbrev pub Ports : List ℕ → Type 0
 Ports ps = All (λ p. isPort p ≡ true) ps
 
+-- of a table, each entry
 tab-all : {A : Type 0} (P : A → Type 0) (n : ℕ) (f : ℕ → A) → ((i : ℕ) → i < n → P (f i)) → All P (tab n f)
 unfolding tab
 tab-all P zero f h = tt
 tab-all P (suc n) f h = (h 0 (suc-le-suc zero-le), tab-all P n (λ i. f (suc i)) (λ i g. h (suc i) (suc-le-suc g)))
+
+pub all-tab : {A : Type 0} (P : A → Type 0) (n : ℕ) (f : ℕ → A) → All P (tab n f) → (i : ℕ) → i < n → P (f i)
+unfolding tab
+all-tab P zero f h i g = absurd (not-suc-le-zero g)
+all-tab P (suc n) f h zero g = h .0
+all-tab P (suc n) f h (suc i) g = all-tab P n (λ k. f (suc k)) (h .1) i (le-of-suc-le-suc g)
 
 pub every-port : Ports everyPort
 every-port = tab-all (λ p. isPort p ≡ true) 18 suc (λ i h. simp (le-leb 1 (suc i) (omega arith), le-leb (suc i) 18 (omega arith)))
@@ -67,6 +75,13 @@ pub own-candidates : (p : ℕ) (q : Port) (t : ℕ) → Own p (candidatesOf p q 
 unfolding candidatesOf
 own-candidates p q t = own-by p (kept (isQualified (windowOf (q .e)) t) (q .slots))
 
+-- "Erbest a port's best" is the first of the ranked list of the port's candidates
+pub best-first : (p : ℕ) (q : Port) (t : ℕ) → isPort p ≡ true → bestOf p q t ≡ headOf (rankOf (candidatesOf p q t))
+unfolding bestOf
+best-first p q t h =
+    let s = candidatesOf p q t in
+    ap headOf (sym (rank-best p s (own-candidates p q t)) ∙ defined s (valid-sound s (candidates-valid p q t h)))
+
 module _ (ws : List ℕ) (t : ℕ) where
   abbrev candidates : ℕ → List Candidate
   candidates p = candidatesOf p (portAt ws p) t
@@ -75,11 +90,14 @@ module _ (ws : List ℕ) (t : ℕ) where
   late p = ltb t (portAt ws p .last)
 
   -- valid for ranking
-  pub heard-valid : (ps : List ℕ) → Ports ps → AllValid (heardOn ws t ps)
+  pub heard-passes : (ps : List ℕ) → Ports ps → allValid (heardOn ws t ps) ≡ true
   unfolding heardOn
-  heard-valid [] h = tt
-  heard-valid (p ∷ ps) h =
-      all-append _ (candidates p) (heardOn ws t ps) (valid-sound (candidates p) (candidates-valid p (portAt ws p) t (h .0))) (heard-valid ps (h .1))
+  heard-passes [] h = refl
+  heard-passes (p ∷ ps) h =
+      valid-append (candidates p) (heardOn ws t ps) (candidates-valid p (portAt ws p) t (h .0)) (heard-passes ps (h .1))
+
+  pub heard-valid : (ps : List ℕ) → Ports ps → AllValid (heardOn ws t ps)
+  heard-valid ps h = valid-sound (heardOn ws t ps) (heard-passes ps h)
 
   -- what a port of the clock answers
   best-is : (p : ℕ) → isPort p ≡ true

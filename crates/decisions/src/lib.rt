@@ -99,8 +99,8 @@ fn erbest(best: Asked) -> Erbest
 fn octet_of(words: &[u64; 1764], own: Grandmaster, list: Ranked, t: u64, p: u8) -> u8
     ensures { λ r. ⌜ r ≡ octetOf (decideOf own list p (erbestOf (bestOn (now (words .entry)) p t))) ⌝ }
 {
-    let best = ports::asking::best(words, p, t);
-    octet(decide::decide(own, list, p, erbest(best)))
+    let best = erbest(ports::asking::best(words, p, t));
+    octet(decide::decide(own, list, p, best))
 }
 
 // Writes each port's octet.

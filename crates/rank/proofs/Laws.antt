@@ -68,7 +68,7 @@ merges : (a b : Ranked) → isRanked a ≡ true → isRanked b ≡ true → merg
 unfolding refuse
 merges a b ha hb = rw (ha, hb)
 
-valid-append : (s t : List Candidate) → allValid s ≡ true → allValid t ≡ true → allValid (s ++ t) ≡ true
+pub valid-append : (s t : List Candidate) → allValid s ≡ true → allValid t ≡ true → allValid (s ++ t) ≡ true
 valid-append [] t h k = k
 valid-append (x ∷ xs) t h k =
     let b = both (isPort (x .port)) (allValid xs) h in rw (b .0) (valid-append xs t (b .1) k)
@@ -86,7 +86,7 @@ module _ (s t : List Candidate) (vs : AllValid s) (vt : AllValid t) where
       (rank-swap earlierOf portOf ordered 4 s t)
 
   -- what merging makes of two collections' ranked lists
-  merge-of-ranks : mergeOf (pack (rankOf s)) (pack (rankOf t)) ≡ doneOf (rankOf (s ++ t))
+  pub merge-of-ranks : mergeOf (pack (rankOf s)) (pack (rankOf t)) ≡ doneOf (rankOf (s ++ t))
   merge-of-ranks =
       merges (pack (rankOf s)) (pack (rankOf t)) (ranked-passes s vs) (ranked-passes t vt)
       ∙ ap doneOf (ap₂ (λ (x y : List Candidate). rankOf (x ++ y)) (unpack-pack (rankOf s)) (unpack-pack (rankOf t)) ∙ rank-of-ranks)
