@@ -1,0 +1,6 @@
+// The engine as a host written in C calls it: include/dzervolat.h says what each call does, in plain words.
+//
+// A call returns 0, or the number of the refusal, and then nothing lent has changed. What it answers goes into words that are
+// lent, in the order that `face` gives. Nothing is decided here: a function unpacks words, calls the engine and packs the answer.
+pub mod ranking;
+pub mod records;
