@@ -11,14 +11,14 @@ pub mod answers;
 pub mod candidates;
 
 // A signed octet as a word.
-fn word_of_i8(x: i8) -> u64
+pub fn word_of_i8(x: i8) -> u64
     ensures { λ r. ⌜ r ≡ ofZ w64 x ⌝ }
 {
     octets::bits64(x as i64)
 }
 
 // A signed number of two octets as a word.
-fn word_of_i16(x: i16) -> u64
+pub fn word_of_i16(x: i16) -> u64
     ensures { λ r. ⌜ r ≡ ofZ w64 x ⌝ }
 {
     octets::bits64(x as i64)
