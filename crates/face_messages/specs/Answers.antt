@@ -2,6 +2,10 @@
 use Prim.Native.Nat.{ℕ}
 use mathlib.Core.List.{List, [], _∷_}
 use Rattle.refusal.specs.Refusal.{numberOf}
+use Rattle.refusal.specs.declared.Outcome.{Outcome}
+use Rattle.refusal.specs.declared.Outcome.the-variants as outcome
+use Rattle.octets.specs.Be.{be}
+use Rattle.layout.specs.Layout.{sizeOf}
 use Rattle.tlv.specs.declared.wr.LinkMessage.{LinkMessage}
 use Rattle.tlv.specs.declared.wr.LinkMessage.the-variants.{SlavePresent, Lock, Locked, Calibrate, Calibrated, ModeOn}
 use Rattle.message.specs.declared.reading.Reading.{Reading}
@@ -21,6 +25,11 @@ readCode (reading.Refused x) = numberOf x
 abbrev pub readWords : Reading → List ℕ → List ℕ
 readWords (reading.Whole m) out = messageWords m
 readWords (reading.Refused x) out = out
+
+-- where the tail begins, and how many octets it has
+abbrev pub tailWords : Reading → ℕ → List ℕ → List ℕ
+tailWords (reading.Whole m) size out = sizeOf (m .body) ∷ size ∷ []
+tailWords (reading.Refused x) size out = out
 
 -- 1, where the data begin in the message, and how many octets they are; zeros where there is none
 abbrev pub tlvCode : TlvRead → ℕ
@@ -63,3 +72,8 @@ abbrev pub linkWords : LinkRead → List ℕ → List ℕ
 linkWords (link.Message m) out = 1 ∷ linkMessageWords m
 linkWords link.Absent out = 0 ∷ 0 ∷ 0 ∷ 0 ∷ 0 ∷ 0 ∷ 0 ∷ []
 linkWords (link.Refused x) out = out
+
+-- the seconds and the nanoseconds in the ten octets of an origin time
+abbrev pub originWords : Outcome → List ℕ → List ℕ → List ℕ
+originWords outcome.Done stamp out = be 6 stamp 0 ∷ be 4 stamp 6 ∷ []
+originWords (outcome.Refused x) stamp out = out

@@ -1,11 +1,13 @@
 // What reading answers, put into words that are lent: the number returned is 0, or that of the refusal, and then the words
 // are as they were.
 ghost use mathlib.Core.Path.{_≡_};
-ghost use Rattle.face_messages.specs.Answers.{readCode, readWords, tlvCode, tlvWords, suffixCode, suffixWords, linkMessageWords, linkCode, linkWords};
+ghost use Rattle.refusal.specs.Refusal.{codeOf};
+ghost use Rattle.face_messages.specs.Answers.{readCode, readWords, tailWords, tlvCode, tlvWords, suffixCode, suffixWords, linkMessageWords, linkCode, linkWords, originWords};
 use message::parts::LinkRead;
 use message::parts::SuffixRead;
 use message::parts::TlvRead;
 use message::reading::Reading;
+use refusal::Outcome;
 use tlv::wr::LinkMessage;
 
 // A message read.
@@ -18,6 +20,20 @@ pub fn put_read(out: &mut [u64; 20], x: Reading) -> u8
         Reading::Whole(m) => {
             *out = crate::message_words(m);
             0
+        }
+    }
+}
+
+// Where the tail of a message that was read begins, and how many octets it has.
+pub fn put_tail(out: &mut [u64; 2], x: Reading, length: usize)
+    ensures { λ _. ⌜ now (out .exit) ≡ tailWords x length (now (out .entry)) ⌝ }
+{
+    match x {
+        Reading::Refused(_) => {}
+        Reading::Whole(m) => {
+            let b = m.body;
+            let size = message::fields::fixed_size(layout::kind_of(b));
+            *out = [size as u64, length as u64];
         }
     }
 }
@@ -90,6 +106,22 @@ pub fn put_link(out: &mut [u64; 7], x: LinkRead) -> u8
         LinkRead::Message(m) => {
             let w = link_message_words(m);
             *out = [1, w[0], w[1], w[2], w[3], w[4], w[5]];
+            0
+        }
+    }
+}
+
+// An origin time: the seconds and the nanoseconds of its ten octets.
+pub fn put_origin(out: &mut [u64; 2], x: Outcome, stamp: &[u8]) -> u8
+    ensures answer { λ r. ⌜ r ≡ codeOf x ⌝ }
+    ensures words { λ _. ⌜ now (out .exit) ≡ originWords x (now (stamp .entry)) (now (out .entry)) ⌝ }
+{
+    match x {
+        Outcome::Refused(y) => refusal::number(y),
+        Outcome::Done => {
+            let seconds = octets::u48_at(stamp, 0);
+            let nanoseconds = octets::u32_at(stamp, 6);
+            *out = [seconds, nanoseconds as u64];
             0
         }
     }
