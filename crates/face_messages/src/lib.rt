@@ -17,6 +17,7 @@ use message::fields::PortIdentity;
 use message::fields::Timestamp;
 
 pub mod answers;
+pub mod writing;
 
 // Two numbers, and zeros.
 fn pair_words(a: u64, b: u64) -> [u64; 11]
@@ -127,7 +128,7 @@ fn stamp_of(w: &[u64; 20]) -> Timestamp
 }
 
 // The identity in two words.
-fn identity_at(w: &[u64; 20], at: usize) -> PortIdentity
+pub fn identity_at(w: &[u64; 20], at: usize) -> PortIdentity
     requires { ⌜ at + 2 ≤ 20 ⌝ }
     ensures { λ r. ⌜ r ≡ identityAt (now (w .entry)) at ⌝ }
 {
@@ -138,7 +139,7 @@ fn identity_at(w: &[u64; 20], at: usize) -> PortIdentity
 }
 
 // The header in the first nine words.
-fn header_of(w: &[u64; 20]) -> Header
+pub fn header_of(w: &[u64; 20]) -> Header
     ensures { λ r. ⌜ r ≡ headerOf (now (w .entry)) ⌝ }
 {
     Header {
@@ -199,12 +200,12 @@ pub fn message_of(w: &[u64; 20]) -> Message
 }
 
 // Whether two runs of words are the same.
-fn are_same(a: &[u64], b: &[u64]) -> bool
-    requires { ⌜ (length (now a) ≡ 20) × (length (now b) ≡ 20) ⌝ }
+pub fn are_same(a: &[u64], b: &[u64]) -> bool
+    requires { ⌜ length (now a) ≡ length (now b) ⌝ }
     ensures { λ r. ⌜ r ≡ same (now (a .entry)) (now (b .entry)) ⌝ }
 {
     let mut i: usize = 0;
-    while i < 20 {
+    while i < a.len() {
         if a[i] != b[i] {
             return false;
         }

@@ -2,17 +2,17 @@
 use mathlib.Core.Path.{_≡_, refl, sym, _∙_}
 use Prim.Native.Nat.{_≤_, _-_}
 use native.Mathlib.Omega.{arith}
-use lib.ListN.{drop}
+use lib.ListN.{length, drop}
 use Rattle.rank.specs.Order.{same}
 use Rattle.face_messages.proofs.Laws.{same-on, same-off, same-end}
 use Rattle.face_messages.proofs.are_same.Statement.{statement}
 use Rattle.face_messages.proofs.are_same.Tie as tie
 
 abbrev Inv-loop : tie.InvT-loop
-Inv-loop a b i₀ i = (i ≤ 20) × (same (drop i a) (drop i b) ≡ same a b)
+Inv-loop a b i₀ i = (i ≤ length a) × (same (drop i a) (drop i b) ≡ same a b)
 
 abbrev μ-loop : tie.MeasureT-loop
-μ-loop a b i₀ i = 20 - i
+μ-loop a b i₀ i = length a - i
 
 loop-holds : tie.Need-loop-holds Inv-loop μ-loop
 loop-holds c = (omega arith, refl)
