@@ -9,6 +9,7 @@ ghost use mir.Val.{ofZ};
 
 pub mod answers;
 pub mod candidates;
+pub mod runs;
 
 // A signed octet as a word.
 pub fn word_of_i8(x: i8) -> u64
