@@ -17,6 +17,8 @@ use Rattle.clock.proofs.records.dz_record.Reads as dz-record
 use Rattle.clock.proofs.records.dz_record.Kinds as dz-record-kinds
 use Rattle.clock.proofs.records.dz_set_interval.Reads as dz-set-interval
 use Rattle.clock.proofs.records.dz_set_interval.Kinds as dz-set-interval-kinds
+use Rattle.clock.proofs.ranking.dz_rank.Reads as dz-rank
+use Rattle.clock.proofs.ranking.dz_rank.Kinds as dz-rank-kinds
 use Rattle.clock.proofs.ranking.dz_merge.Reads as dz-merge
 use Rattle.clock.proofs.ranking.dz_merge.Kinds as dz-merge-kinds
 use Rattle.clock.proofs.ranking.dz_decide.Reads as dz-decide
@@ -77,6 +79,10 @@ module _ (κs : Lfts 2) (a : Dens κs dz-record-kinds.ps) (x y : resT dz-record-
 module _ (κs : Lfts 1) (a : Dens κs dz-set-interval-kinds.ps) (x y : resT dz-set-interval-kinds.r κs .Denot) (e f : AtExit (endedOf 1 dz-set-interval-kinds.ps dz-set-interval-kinds.r) κs) where
   pub dz-set-interval-determined : dz-set-interval.Post κs a x e → dz-set-interval.Post κs a y f → (x ≡ y) × (now (e .0) ≡ now (f .0))
   dz-set-interval-determined p q = (p .0 ∙ sym (q .0), p .1 ∙ sym (q .1))
+
+module _ (κs : Lfts 2) (a : Dens κs dz-rank-kinds.ps) (x y : resT dz-rank-kinds.r κs .Denot) (e f : AtExit (endedOf 2 dz-rank-kinds.ps dz-rank-kinds.r) κs) where
+  pub dz-rank-determined : dz-rank.Post κs a x e → dz-rank.Post κs a y f → (x ≡ y) × (now (e .1 .0) ≡ now (f .1 .0))
+  dz-rank-determined p q = (p .0 ∙ sym (q .0), p .1 ∙ sym (q .1))
 
 module _ (κs : Lfts 3) (a : Dens κs dz-merge-kinds.ps) (x y : resT dz-merge-kinds.r κs .Denot) (e f : AtExit (endedOf 3 dz-merge-kinds.ps dz-merge-kinds.r) κs) where
   pub dz-merge-determined : dz-merge.Post κs a x e → dz-merge.Post κs a y f → (x ≡ y) × (now (e .1 .1 .0) ≡ now (f .1 .1 .0))

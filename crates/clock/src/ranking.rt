@@ -3,11 +3,21 @@
 ghost use mathlib.Core.Path.{_≡_};
 ghost use mathlib.Core.List.{[], _∷_};
 ghost use Rattle.refusal.specs.Refusal.{codeOf};
-ghost use Rattle.rank.specs.Calls.{mergeOf};
+ghost use Rattle.rank.specs.Calls.{mergeOf, rankingOf};
 ghost use Rattle.decide.specs.Comparing.{compareOf};
 ghost use Rattle.decide.specs.Deciding.{decideOf};
 ghost use Rattle.face.specs.Candidates.{grandmasterAt, rankedOf, setOf, bestOf};
+ghost use Rattle.face.specs.Runs.{runOf};
 ghost use Rattle.face.specs.Answers.{rankingWords, decidedCode, decidedWords, comparisonNumber};
+
+// The ranked list of a run of candidates, in any order, with repeats; words past the last whole candidate say nothing.
+#[no_mangle]
+pub extern "C" fn dz_rank(run: &[u64], list: &mut [u64; 45]) -> u8
+    ensures answer { λ r. ⌜ r ≡ codeOf (rankingOf (runOf (now (run .entry))) .outcome) ⌝ }
+    ensures words { λ _. ⌜ now (list .exit) ≡ rankingWords (rankingOf (runOf (now (run .entry)))) (now (list .entry)) ⌝ }
+{
+    face::answers::put_ranking(list, face::runs::rank_run(run))
+}
 
 // The ranked list of all that two ranked lists were ranked of.
 #[no_mangle]
