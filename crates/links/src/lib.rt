@@ -23,14 +23,14 @@ pub enum Taken {
 }
 
 // A bool as a bit of a word.
-fn bit(b: bool) -> u64
+pub fn bit(b: bool) -> u64
     ensures { λ r. ⌜ r ≡ bit b ⌝ }
 {
     if b { 1 } else { 0 }
 }
 
 // A state in three bits of a word; IDLE is 0.
-fn state_number(state: State) -> u64
+pub fn state_number(state: State) -> u64
     ensures { λ r. ⌜ r ≡ stateNumber state ⌝ }
 {
     match state {

@@ -1,0 +1,16 @@
+-- `dz_status` meets its contract: what is asked is put into the words.
+use borrow.Author.Needs.{needs}
+use Rattle.clock.proofs.records.dz_status.Statement.{statement}
+use Rattle.clock.proofs.records.dz_status.Tie as tie
+
+port-status-requires : tie.Need-port-status-requires
+port-status-requires c κs = search needs
+
+put-status-requires : tie.Need-put-status-requires
+put-status-requires c κs = search needs
+
+returns : tie.Need-returns
+returns c = rw (← c .before .port-status .ensures) (c .put-status .ensures)
+
+pub dz-status-spec : {M : Type 1} → statement M
+dz-status-spec = tie.close (tie.spec port-status-requires put-status-requires returns)

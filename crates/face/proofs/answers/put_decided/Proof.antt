@@ -1,0 +1,35 @@
+-- `put_decided` meets its contract, by the answer.
+use mathlib.Core.Path.{refl}
+use mathlib.Core.List.{[], _∷_}
+use borrow.Author.Needs.{needs}
+use Rattle.face.proofs.answers.put_decided.Statement.{statement}
+use Rattle.face.proofs.answers.put_decided.Tie as tie
+
+enum-known-a : tie.Need-enum-known-a
+enum-known-a c = search needs
+
+number-requires : tie.Need-number-requires
+number-requires c κs = search needs
+
+enum-known-a-2 : tie.Need-enum-known-a-2
+enum-known-a-2 c = search needs
+
+decision-number-requires : tie.Need-decision-number-requires
+decision-number-requires c κs = search needs
+
+returns : tie.Need-returns
+returns c = rw (c .before .before .a .given .1) (c .number .ensures, refl)
+
+returns-2 : tie.Need-returns-2
+returns-2 c = rw (c .before .before .before .a2 .given .1) (refl, λ i. c .before .decision-number .ensures i ∷ [])
+
+pub put-decided-spec : {M : Type 1} → statement M
+put-decided-spec =
+    tie.close
+    (tie.spec
+    enum-known-a
+    number-requires
+    enum-known-a-2
+    decision-number-requires
+    returns
+    returns-2)
