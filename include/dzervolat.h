@@ -223,7 +223,7 @@ uint8_t dz_set_interval(uint64_t ports[DZ_PORTS_WORDS], uint8_t port, int8_t k);
 /* A data set for dz_compare: the first nine words are a candidate's, then the receiver. */
 enum dz_set { DZ_S_RECEIVER_CLOCK = 9, DZ_S_RECEIVER_PORT = 10, DZ_SET_WORDS = 11 };
 
-enum dz_decision { DZ_M1 = 1, DZ_M2 = 2, DZ_M3 = 3, DZ_P1 = 4, DZ_P2 = 5, DZ_S1 = 6, DZ_S2 = 7 };
+enum dz_decision { DZ_M1 = 1, DZ_M2 = 2, DZ_M3 = 3, DZ_S1 = 4, DZ_S2 = 5, DZ_P1 = 6, DZ_P2 = 7 };
 
 enum dz_comparison { DZ_A_BETTER = 1, DZ_B_BETTER = 2, DZ_A_BETTER_BY_TOPOLOGY = 3, DZ_B_BETTER_BY_TOPOLOGY = 4, DZ_ERROR_1 = 5, DZ_ERROR_2 = 6 };
 
@@ -237,6 +237,14 @@ uint8_t dz_merge(const uint64_t a[DZ_LIST_WORDS], const uint64_t b[DZ_LIST_WORDS
 /* What a port is to do (enum dz_decision, in decision[0]): by our own quality, the ranked list of all ports, and the port's best as dz_best
    gives it. Refuses 8, then 15. */
 uint8_t dz_decide(const uint64_t own[DZ_OWN_WORDS], const uint64_t list[DZ_LIST_WORDS], uint8_t port, const uint64_t best[DZ_FOUND_WORDS], uint64_t decision[1]);
+
+/* Every port's decision at a time in one call: decisions[p - 1] is that of port p (enum dz_decision), `list` the ranked list of all that
+   the eighteen ports hear, its first the best and the rest the backups. Refuses 11 where a port's last accepted time is later. */
+uint8_t dz_decide_all(const uint64_t ports[DZ_PORTS_WORDS], uint64_t now, const uint64_t own[DZ_OWN_WORDS], uint8_t decisions[18], uint64_t list[DZ_LIST_WORDS]);
+
+/* The parent by our own quality and the ranked list of all ports: found[0] is 1, the candidate follows; all 0 where our own clock leads.
+   The parent is the list's first, and its port is the one that is told S1. Refuses 15. */
+uint8_t dz_parent(const uint64_t own[DZ_OWN_WORDS], const uint64_t list[DZ_LIST_WORDS], uint64_t found[DZ_FOUND_WORDS]);
 
 /* Two data sets compared as IEEE 1588-2008 compares them (enum dz_comparison, in answer[0]). Refuses nothing. */
 uint8_t dz_compare(const uint64_t a[DZ_SET_WORDS], const uint64_t b[DZ_SET_WORDS], uint64_t answer[1]);

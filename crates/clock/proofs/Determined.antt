@@ -23,6 +23,10 @@ use Rattle.clock.proofs.ranking.dz_merge.Reads as dz-merge
 use Rattle.clock.proofs.ranking.dz_merge.Kinds as dz-merge-kinds
 use Rattle.clock.proofs.ranking.dz_decide.Reads as dz-decide
 use Rattle.clock.proofs.ranking.dz_decide.Kinds as dz-decide-kinds
+use Rattle.clock.proofs.ranking.dz_decide_all.Reads as dz-decide-all
+use Rattle.clock.proofs.ranking.dz_decide_all.Kinds as dz-decide-all-kinds
+use Rattle.clock.proofs.ranking.dz_parent.Reads as dz-parent
+use Rattle.clock.proofs.ranking.dz_parent.Kinds as dz-parent-kinds
 use Rattle.clock.proofs.ranking.dz_compare.Reads as dz-compare
 use Rattle.clock.proofs.ranking.dz_compare.Kinds as dz-compare-kinds
 use Rattle.clock.proofs.reading.dz_read.Reads as dz-read
@@ -91,6 +95,14 @@ module _ (κs : Lfts 3) (a : Dens κs dz-merge-kinds.ps) (x y : resT dz-merge-ki
 module _ (κs : Lfts 4) (a : Dens κs dz-decide-kinds.ps) (x y : resT dz-decide-kinds.r κs .Denot) (e f : AtExit (endedOf 4 dz-decide-kinds.ps dz-decide-kinds.r) κs) where
   pub dz-decide-determined : dz-decide.Post κs a x e → dz-decide.Post κs a y f → (x ≡ y) × (now (e .1 .1 .1 .1 .0) ≡ now (f .1 .1 .1 .1 .0))
   dz-decide-determined p q = (p .0 ∙ sym (q .0), p .1 ∙ sym (q .1))
+
+module _ (κs : Lfts 4) (a : Dens κs dz-decide-all-kinds.ps) (x y : resT dz-decide-all-kinds.r κs .Denot) (e f : AtExit (endedOf 4 dz-decide-all-kinds.ps dz-decide-all-kinds.r) κs) where
+  pub dz-decide-all-determined : dz-decide-all.Post κs a x e → dz-decide-all.Post κs a y f → (x ≡ y) × (now (e .1 .1 .1 .0) ≡ now (f .1 .1 .1 .0)) × (now (e .1 .1 .1 .1 .0) ≡ now (f .1 .1 .1 .1 .0))
+  dz-decide-all-determined p q = (p .0 ∙ sym (q .0), p .1 .0 ∙ sym (q .1 .0), p .1 .1 ∙ sym (q .1 .1))
+
+module _ (κs : Lfts 3) (a : Dens κs dz-parent-kinds.ps) (x y : resT dz-parent-kinds.r κs .Denot) (e f : AtExit (endedOf 3 dz-parent-kinds.ps dz-parent-kinds.r) κs) where
+  pub dz-parent-determined : dz-parent.Post κs a x e → dz-parent.Post κs a y f → (x ≡ y) × (now (e .1 .1 .0) ≡ now (f .1 .1 .0))
+  dz-parent-determined p q = (p .0 ∙ sym (q .0), p .1 ∙ sym (q .1))
 
 module _ (κs : Lfts 3) (a : Dens κs dz-compare-kinds.ps) (x y : resT dz-compare-kinds.r κs .Denot) (e f : AtExit (endedOf 3 dz-compare-kinds.ps dz-compare-kinds.r) κs) where
   pub dz-compare-determined : dz-compare.Post κs a x e → dz-compare.Post κs a y f → (x ≡ y) × (now (e .1 .1 .0) ≡ now (f .1 .1 .0))

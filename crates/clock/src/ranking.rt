@@ -6,9 +6,11 @@ ghost use Rattle.refusal.specs.Refusal.{codeOf};
 ghost use Rattle.rank.specs.Calls.{mergeOf, rankingOf};
 ghost use Rattle.decide.specs.Comparing.{compareOf};
 ghost use Rattle.decide.specs.Deciding.{decideOf};
+ghost use Rattle.decisions.specs.Elected.{everyPort, electedOf};
+ghost use Rattle.decisions.specs.Decisions.{outAfter, parentOf};
 ghost use Rattle.face.specs.Candidates.{grandmasterAt, rankedOf, setOf, bestOf};
 ghost use Rattle.face.specs.Runs.{runOf};
-ghost use Rattle.face.specs.Answers.{rankingWords, decidedCode, decidedWords, comparisonNumber};
+ghost use Rattle.face.specs.Answers.{rankingWords, decidedCode, decidedWords, leaderCode, leaderWords, comparisonNumber};
 
 // The ranked list of a run of candidates, in any order, with repeats; words past the last whole candidate say nothing.
 #[no_mangle]
@@ -46,6 +48,35 @@ pub extern "C" fn dz_decide(
     let l = face::candidates::ranked_of(list);
     let e = face::candidates::best_of(best);
     face::answers::put_decided(decision, decide::decide(g, l, port, e))
+}
+
+// Every port's decision at a time, from the ports' words and our own quality; and the ranked list of all ports.
+#[no_mangle]
+pub extern "C" fn dz_decide_all(
+    ports: &[u64; 1764],
+    t: u64,
+    own: &[u64; 6],
+    decisions: &mut [u8; 18],
+    list: &mut [u64; 45],
+) -> u8
+    ensures answer { λ r. ⌜ r ≡ codeOf (electedOf (now (ports .entry)) t everyPort .outcome) ⌝ }
+    ensures octets { λ _. ⌜ now (decisions .exit) ≡ outAfter (grandmasterAt (now (own .entry)) 0) (now (ports .entry)) t (now (decisions .entry)) ⌝ }
+    ensures words { λ _. ⌜ now (list .exit) ≡ rankingWords (electedOf (now (ports .entry)) t everyPort) (now (list .entry)) ⌝ }
+{
+    let g = face::candidates::grandmaster_at(own, 0);
+    let r = decisions::decide_all(ports, g, t, decisions);
+    face::answers::put_ranking(list, r)
+}
+
+// The parent by our own quality and the ranked list of all ports; the rest of the list are its backups.
+#[no_mangle]
+pub extern "C" fn dz_parent(own: &[u64; 6], list: &[u64; 45], found: &mut [u64; 12]) -> u8
+    ensures answer { λ r. ⌜ r ≡ leaderCode (parentOf (grandmasterAt (now (own .entry)) 0) (rankedOf (now (list .entry)))) ⌝ }
+    ensures words { λ _. ⌜ now (found .exit) ≡ leaderWords (parentOf (grandmasterAt (now (own .entry)) 0) (rankedOf (now (list .entry)))) (now (found .entry)) ⌝ }
+{
+    let g = face::candidates::grandmaster_at(own, 0);
+    let l = face::candidates::ranked_of(list);
+    face::answers::put_leader(found, decisions::parent(g, l))
 }
 
 // The comparison of two data sets; it refuses nothing.

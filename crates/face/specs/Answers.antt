@@ -16,13 +16,14 @@ use Rattle.ports.specs.declared.asking.Status.{Status}
 use Rattle.ports.specs.declared.asking.Status.the-variants as status
 use Rattle.ports.specs.declared.asking.Looked.{Looked}
 use Rattle.ports.specs.declared.asking.Looked.the-variants as looked
-use Rattle.decide.specs.declared.Decision.{Decision}
-use Rattle.decide.specs.declared.Decision.the-variants.{M1, M2, M3, P1, P2, S1, S2}
 use Rattle.decide.specs.declared.Answer.{Answer}
 use Rattle.decide.specs.declared.Answer.the-variants as answer
 use Rattle.decide.specs.declared.Comparison.{Comparison}
 use Rattle.decide.specs.declared.Comparison.the-variants.{ABetter, BBetter, ABetterByTopology, BBetterByTopology, Error1, Error2}
-use Rattle.face.specs.Candidates.{rankedWords}
+use Rattle.decisions.specs.Decisions.{codeOf}
+use Rattle.decisions.specs.declared.Leader.{Leader}
+use Rattle.decisions.specs.declared.Leader.the-variants as leader
+use Rattle.face.specs.Candidates.{foundWords, rankedWords}
 
 -- a port's last accepted time and its interval's exponent
 abbrev pub statusCode : Status → ℕ
@@ -74,23 +75,25 @@ listWords (outcome.Refused x) list out = out
 abbrev pub rankingWords : Ranking → List ℕ → List ℕ
 rankingWords x out = listWords (x .outcome) (x .list) out
 
--- the numbers of decisions
-abbrev pub decisionNumber : Decision → ℕ
-decisionNumber M1 = 1
-decisionNumber M2 = 2
-decisionNumber M3 = 3
-decisionNumber P1 = 4
-decisionNumber P2 = 5
-decisionNumber S1 = 6
-decisionNumber S2 = 7
-
+-- a decision by its number
 abbrev pub decidedCode : Answer → ℕ
 decidedCode (answer.Decided d) = 0
 decidedCode (answer.Refused x) = numberOf x
 
 abbrev pub decidedWords : Answer → List ℕ → List ℕ
-decidedWords (answer.Decided d) out = decisionNumber d ∷ []
+decidedWords (answer.Decided d) out = codeOf d ∷ []
 decidedWords (answer.Refused x) out = out
+
+-- whom the clock follows: the parent, zeros where our own clock leads
+abbrev pub leaderCode : Leader → ℕ
+leaderCode (leader.Refused x) = numberOf x
+leaderCode leader.Ours = 0
+leaderCode (leader.Master c) = 0
+
+abbrev pub leaderWords : Leader → List ℕ → List ℕ
+leaderWords (leader.Refused x) out = out
+leaderWords leader.Ours out = 0 ∷ 0 ∷ 0 ∷ 0 ∷ 0 ∷ 0 ∷ 0 ∷ 0 ∷ 0 ∷ 0 ∷ 0 ∷ 0 ∷ []
+leaderWords (leader.Master c) out = foundWords c
 
 -- the numbers of a comparison's answers
 abbrev pub comparisonNumber : Comparison → ℕ

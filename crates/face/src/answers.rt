@@ -2,10 +2,10 @@
 // refusal, and then the words are as they were.
 ghost use mathlib.Core.Path.{_≡_};
 ghost use Rattle.refusal.specs.Refusal.{codeOf};
-ghost use Rattle.face.specs.Answers.{statusCode, statusWords, recordWords, seenWords, lookedCode, lookedWords, decisionNumber, decidedCode, decidedWords, comparisonNumber, rankingWords};
+ghost use Rattle.face.specs.Answers.{statusCode, statusWords, recordWords, seenWords, lookedCode, lookedWords, decidedCode, decidedWords, leaderCode, leaderWords, comparisonNumber, rankingWords};
 use decide::Answer;
 use decide::Comparison;
-use decide::Decision;
+use decisions::Leader;
 use ports::asking::Looked;
 use ports::asking::Status;
 use rank::Ranking;
@@ -97,21 +97,6 @@ pub fn put_ranking(out: &mut [u64; 45], x: Ranking) -> u8
     }
 }
 
-// The number of a decision: 1 to 3 for M1 to M3, 4 and 5 for P1 and P2, 6 and 7 for S1 and S2.
-fn decision_number(d: Decision) -> u64
-    ensures { λ r. ⌜ r ≡ decisionNumber d ⌝ }
-{
-    match d {
-        Decision::M1 => 1,
-        Decision::M2 => 2,
-        Decision::M3 => 3,
-        Decision::P1 => 4,
-        Decision::P2 => 5,
-        Decision::S1 => 6,
-        Decision::S2 => 7,
-    }
-}
-
 // What deciding gives.
 pub fn put_decided(out: &mut [u64; 1], a: Answer) -> u8
     ensures answer { λ r. ⌜ r ≡ decidedCode a ⌝ }
@@ -120,7 +105,25 @@ pub fn put_decided(out: &mut [u64; 1], a: Answer) -> u8
     match a {
         Answer::Refused(x) => refusal::number(x),
         Answer::Decided(d) => {
-            *out = [decision_number(d)];
+            *out = [decisions::code(d) as u64];
+            0
+        }
+    }
+}
+
+// Whom the clock follows: 1 and the parent, or zeros where our own clock leads.
+pub fn put_leader(out: &mut [u64; 12], x: Leader) -> u8
+    ensures answer { λ r. ⌜ r ≡ leaderCode x ⌝ }
+    ensures words { λ _. ⌜ now (out .exit) ≡ leaderWords x (now (out .entry)) ⌝ }
+{
+    match x {
+        Leader::Refused(y) => refusal::number(y),
+        Leader::Ours => {
+            *out = [0; 12];
+            0
+        }
+        Leader::Master(c) => {
+            *out = crate::candidates::found_words(c);
             0
         }
     }

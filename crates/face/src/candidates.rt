@@ -109,7 +109,7 @@ pub fn candidate_words(c: Candidate) -> [u64; 11]
 }
 
 // 1 and a candidate.
-fn found_words(c: Candidate) -> [u64; 12]
+pub fn found_words(c: Candidate) -> [u64; 12]
     ensures { λ r. ⌜ r ≡ foundWords c ⌝ }
 {
     let w = candidate_words(c);

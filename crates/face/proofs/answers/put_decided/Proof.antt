@@ -14,14 +14,17 @@ number-requires c κs = search needs
 enum-known-a-2 : tie.Need-enum-known-a-2
 enum-known-a-2 c = search needs
 
-decision-number-requires : tie.Need-decision-number-requires
-decision-number-requires c κs = search needs
+code-requires : tie.Need-code-requires
+code-requires c κs = search needs
+
+cast-t7 : tie.Need-cast-t7
+cast-t7 c = search needs
 
 returns : tie.Need-returns
 returns c = rw (c .before .before .a .given .1) (c .number .ensures, refl)
 
 returns-2 : tie.Need-returns-2
-returns-2 c = rw (c .before .before .before .a2 .given .1) (refl, λ i. c .before .decision-number .ensures i ∷ [])
+returns-2 c = rw (c .before .before .before .a2 .given .1) (refl, λ i. c .before .code .ensures i ∷ [])
 
 pub put-decided-spec : {M : Type 1} → statement M
 put-decided-spec =
@@ -30,6 +33,7 @@ put-decided-spec =
     enum-known-a
     number-requires
     enum-known-a-2
-    decision-number-requires
+    code-requires
+    cast-t7
     returns
     returns-2)
