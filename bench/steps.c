@@ -1,4 +1,5 @@
 /* steps PROGRAM: how many instructions it executes, counted one by one. For x86-64. */
+#include <signal.h>
 #include <stdio.h>
 #include <sys/ptrace.h>
 #include <sys/wait.h>
@@ -17,11 +18,12 @@ int main(int argc, char **argv)
         _exit(127);
     }
     waitpid(child, &status, 0);
-    while (WIFSTOPPED(status)) {
+    while (WIFSTOPPED(status) && WSTOPSIG(status) == SIGTRAP) {
         if (ptrace(PTRACE_SINGLESTEP, child, 0, 0) < 0) return 2;
         waitpid(child, &status, 0);
         steps++;
     }
+    if (WIFSTOPPED(status)) kill(child, SIGKILL);
     if (!WIFEXITED(status) || WEXITSTATUS(status) != 0) return 1;
     printf("%ld\n", steps);
     return 0;

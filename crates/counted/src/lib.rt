@@ -1,7 +1,8 @@
 // What `bench/` counts, as functions that C can call. Nothing is decided here.
 //
 // A message read: every field of it is added up, so that each is looked at once; a message that is refused gives the
-// refusal's number. A step of a link, and a measurement, whose answers are added up in the same way.
+// refusal's number. A step of a link, and a measurement, whose answers are added up in the same way; `ranking` has
+// comparing, merging and ranking.
 use delay::Asymmetry;
 use delay::Corrections;
 use delay::Exchange;
@@ -21,6 +22,8 @@ use message::fields::Header;
 use message::fields::PortIdentity;
 use message::fields::Timestamp;
 use message::reading::Reading;
+
+pub mod ranking;
 
 fn plus(a: u64, b: u64) -> u64 {
     std::num::wrapping_add_u64(a, b)
