@@ -1,4 +1,5 @@
-/* The reading rules by hand in C: the same checks in the same order, every access inside the octets lent, every field added up. */
+/* The reading rules by hand in C: the same checks in the same order, every access inside the octets lent, fields added up:
+   all of them, with -DKEPT those that intake keeps. */
 #include <stddef.h>
 #include <stdint.h>
 #include <string.h>
@@ -54,11 +55,11 @@ static int tail_fault(const uint8_t *t, size_t n, uint16_t magic, uint64_t *flag
     return misfit ? 7 : 0;
 }
 
-uint64_t c_count_announce(const uint8_t *s, size_t n, uint16_t magic)
+/* The number that refuses an Announce, or 0. */
+static inline int announce_fault(const uint8_t *s, size_t n, uint16_t magic, uint64_t *flags)
 {
     unsigned kind, size;
     size_t length;
-    uint64_t flags;
     int fault;
     if (n < 34) return 1;
     if (s[1] % 16 != 2) return 2;
@@ -69,9 +70,29 @@ uint64_t c_count_announce(const uint8_t *s, size_t n, uint16_t magic)
     if (length < size) return 4;
     if (n < length) return 1;
     if (kind != 0xC && be32(s + 40) >= 1000000000) return 5;
-    fault = tail_fault(s + size, length - size, magic, &flags);
+    fault = tail_fault(s + size, length - size, magic, flags);
     if (fault) return fault;
-    if (kind != 0xB) return 3;
+    return kind == 0xB ? 0 : 3;
+}
+
+#ifndef KEPT
+/* Every field of an Announce. */
+uint64_t c_count_announce(const uint8_t *s, size_t n, uint16_t magic)
+{
+    uint64_t flags;
+    int fault = announce_fault(s, n, magic, &flags);
+    if (fault) return fault;
     return (uint64_t)s[0] / 16 + s[4] + be16(s + 6) + be64(s + 8) + be64(s + 20) + be16(s + 28) + be16(s + 30) + s[33] + be48(s + 34) + be32(s + 40)
         + be16(s + 44) + s[47] + s[48] + s[49] + be16(s + 50) + s[52] + be64(s + 53) + be16(s + 61) + s[63] + flags;
 }
+
+#else
+/* What intake keeps of it. */
+uint64_t c_count_intake(const uint8_t *s, size_t n, uint16_t magic)
+{
+    uint64_t flags;
+    int fault = announce_fault(s, n, magic, &flags);
+    if (fault) return fault;
+    return (uint64_t)s[4] + be64(s + 20) + be16(s + 28) + be16(s + 30) + s[47] + s[48] + s[49] + be16(s + 50) + s[52] + be64(s + 53) + be16(s + 61) + flags;
+}
+#endif
