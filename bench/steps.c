@@ -23,6 +23,7 @@ int main(int argc, char **argv)
         waitpid(child, &status, 0);
         steps++;
     }
+    if (WIFSTOPPED(status)) kill(child, SIGKILL);
     if (!WIFEXITED(status) || WEXITSTATUS(status) != 0) return 1;
     printf("%ld\n", steps);
     return 0;

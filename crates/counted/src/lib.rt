@@ -2,7 +2,7 @@
 //
 // A message read: every field of it is added up, so that each is looked at once; a message that is refused gives the
 // refusal's number. An Announce with its suffix, written. A step of a link, and a measurement, whose answers are added up
-// in the same way.
+// in the same way; `ranking` has comparing, merging and ranking.
 use delay::Asymmetry;
 use delay::Corrections;
 use delay::Exchange;
@@ -24,6 +24,8 @@ use message::fields::PortIdentity;
 use message::fields::Timestamp;
 use message::reading::Reading;
 use writer::writing::Written;
+
+pub mod ranking;
 
 fn plus(a: u64, b: u64) -> u64 {
     std::num::wrapping_add_u64(a, b)

@@ -5,6 +5,7 @@ use mathlib.Core.Bool.{not}
 use lib.Dec.{eqb, ltb}
 use lib.ListN.{length}
 use Rattle.refusal.specs.Choice.{pick, refuse}
+use Rattle.refusal.specs.declared.Refusal.{Refusal}
 use Rattle.refusal.specs.declared.Refusal.the-variants.{«Type»}
 use Rattle.tlv.specs.Walk.{first, dataAt}
 use Rattle.tlv.specs.Faults.{soughtAt}
@@ -14,7 +15,7 @@ use Rattle.tlv.specs.declared.wr.Suffix.{Suffix}
 use Rattle.tlv.specs.declared.wr.Suffix.the-variants as suffix
 use Rattle.tlv.specs.declared.wr.LinkFound.{LinkFound}
 use Rattle.tlv.specs.declared.wr.LinkFound.the-variants as found
-use Rattle.message.specs.Fields.{typeOf, lengthOf, fixedSize, headerOf, announceOf, tailOf}
+use Rattle.message.specs.Fields.{typeOf, versionOf, lengthOf, fixedSize, headerOf, announceOf, tailOf}
 use Rattle.message.specs.Reading.{checkOf, by}
 use Rattle.message.specs.declared.announce.Announced.{Announced}
 use Rattle.message.specs.declared.announce.Announced.the-variants as announced
@@ -68,6 +69,20 @@ announcedOf magic s =
     by (checkOf magic s) announced.Refused
     (refuse (not (eqb (typeOf s) 0xB)) (announced.Refused «Type»)
     (announced.Whole (record { header = headerOf s; announce = announceOf s; flags = wrFlagsOf (suffixIn magic (tailOf s)) })))
+
+-- messageLength of octets that are an Announce as far as version, type and lengths go, 0 of any others
+unfoldable pub announceLength : List ℕ → ℕ
+announceLength s =
+    refuse (ltb (length s) 64) 0
+    (refuse (not (eqb (versionOf s) 2)) 0
+    (refuse (not (eqb (typeOf s) 0xB)) 0
+    (refuse (ltb (lengthOf s) 64) 0
+    (refuse (ltb (length s) (lengthOf s)) 0
+    (lengthOf s)))))
+
+-- what refuses octets that are no Announce
+unfoldable pub refusalOf : ℕ → List ℕ → Refusal
+refusalOf magic s = by (checkOf magic s) (λ x. x) «Type»
 
 abbrev pub linkAnswer : LinkFound → LinkRead
 linkAnswer (found.Message m) = link.Message m

@@ -2,6 +2,7 @@
 ghost use mathlib.Core.Path.{_≡_};
 ghost use Prim.Native.Nat.{_+_, _≤_};
 ghost use lib.ListN.{length};
+ghost use Rattle.octets.specs.Be.{be};
 ghost use Rattle.message.specs.Fields.{typeOf, fixedSize, identityAt, stampOf, headerOf, announceOf, bodyOf, messageOf};
 
 // A port of a clock, ten octets.
@@ -97,14 +98,23 @@ fn identity_at(s: &[u8], at: usize) -> PortIdentity
     }
 }
 
-fn stamp_of(s: &[u8]) -> Timestamp
+// The timestamp, its nanoseconds having been read when they were checked.
+fn stamp_with(s: &[u8], nanoseconds: u32) -> Timestamp
     requires { ⌜ 44 ≤ length (now s) ⌝ }
+    requires { ⌜ nanoseconds ≡ be 4 (now s) 40 ⌝ }
     ensures { λ r. ⌜ r ≡ stampOf (now (s .entry)) ⌝ }
 {
     Timestamp {
         seconds: octets::held::u48_at(s, 34),
-        nanoseconds: octets::held::u32_at(s, 40),
+        nanoseconds,
     }
+}
+
+fn stamp_of(s: &[u8]) -> Timestamp
+    requires { ⌜ 44 ≤ length (now s) ⌝ }
+    ensures { λ r. ⌜ r ≡ stampOf (now (s .entry)) ⌝ }
+{
+    stamp_with(s, octets::held::u32_at(s, 40))
 }
 
 pub fn header_of(s: &[u8]) -> Header
@@ -122,12 +132,14 @@ pub fn header_of(s: &[u8]) -> Header
     }
 }
 
-pub fn announce_of(s: &[u8]) -> Announce
+// An Announce, its nanoseconds having been read.
+pub fn announce_of(s: &[u8], nanoseconds: u32) -> Announce
     requires { ⌜ 64 ≤ length (now s) ⌝ }
+    requires { ⌜ nanoseconds ≡ be 4 (now s) 40 ⌝ }
     ensures { λ r. ⌜ r ≡ announceOf (now (s .entry)) ⌝ }
 {
     Announce {
-        origin: stamp_of(s),
+        origin: stamp_with(s, nanoseconds),
         utc: octets::signed16(octets::held::u16_at(s, 44)),
         priority1: s[47],
         class: s[48],
@@ -160,7 +172,7 @@ pub fn body_of(s: &[u8]) -> Body
         DELAY_REQ => Body::DelayReq(stamp_of(s)),
         FOLLOW_UP => Body::FollowUp(stamp_of(s)),
         DELAY_RESP => Body::DelayResp(delay_resp_of(s)),
-        ANNOUNCE => Body::Announce(announce_of(s)),
+        ANNOUNCE => Body::Announce(announce_of(s, octets::held::u32_at(s, 40))),
         _ => Body::Signaling(identity_at(s, 34)),
     }
 }

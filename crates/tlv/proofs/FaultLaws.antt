@@ -1,38 +1,75 @@
 -- Laws of the faults of a tail: the first misfit so far along the walk, and the number alone of a fault.
-use Prim.Native.Nat.{ℕ, _<_}
+use Prim.Native.Nat.{ℕ, _<_, _≤_}
 use mathlib.Core.Path.{_≡_, refl, sym, _∙_}
 use mathlib.Core.List.{List}
 use mathlib.Core.Bool.{Bool, true, false}
 use native.Mathlib.Omega.{arith}
-use borrow.Author.Tests.{lt-ltb, ne-eqb}
+use borrow.Author.Tests.{lt-ltb, ltb-false, ne-eqb}
 use lib.Dec.{eqb, ltb}
 use lib.ListN.{length}
 use Rattle.refusal.specs.Choice.{pick, refuse}
-use Rattle.tlv.specs.Walk.{nextOf, broken, first}
-use Rattle.tlv.specs.Form.{misfitAt}
-use Rattle.tlv.specs.Faults.{soughtAt, whole, misfit, laterOf, faultOf, tailCheck, outcomeOf}
+use Rattle.refusal.specs.declared.Refusal.{Refusal}
+use Rattle.refusal.specs.declared.Outcome.the-variants.{Done, Refused}
+use Rattle.tlv.specs.Walk.{sizeAt, nextOf, broken, first}
+use Rattle.tlv.specs.Form.{numbered, misfitBy, misfitAt, suffixAt}
+use Rattle.tlv.specs.Faults.{soughtAt, whole, misfit, laterOf, faultOf, soundOf, tailCheck, outcomeOf}
+use Rattle.tlv.specs.declared.form.Numbered.{Numbered}
 use Rattle.tlv.specs.declared.walk.Sought.{Sought}
+use Rattle.tlv.specs.declared.walk.Sound.the-variants.{SuffixAt, Faulty}
 use Rattle.tlv.specs.declared.walk.Next.the-variants.{At}
 use Rattle.tlv.specs.declared.walk.Fault.the-variants.{Sound, Broken, Misfit}
 use Rattle.tlv.proofs.WalkLaws.{walk-more, Found, first-found}
 
--- the first misfit, from what was found so far and what the walk finds from p on
-abbrev pub firstMisfit : ℕ → List ℕ → ℕ → ℕ → ℕ
-firstMisfit magic t soFar p = pick (ltb soFar (length t)) soFar (misfit magic t p)
+-- the first place that passes a test, from what was found so far and what the walk finds from p on
+abbrev pub firstSoFar : (ℕ → Bool) → List ℕ → ℕ → ℕ → ℕ
+firstSoFar test t soFar p = pick (ltb soFar (length t)) soFar (first test t p)
 
 -- it stays the same from TLV to TLV
-pub carried : (magic : ℕ) (t : List ℕ) (p q soFar : ℕ) → p < length t → nextOf t p ≡ At q
-    → firstMisfit magic t (laterOf magic t p soFar) q ≡ firstMisfit magic t soFar p
-carried magic t p q soFar h m =
-    rw (walk-more (length t) (λ (r : ℕ). length t) (λ (r s : ℕ). pick (misfitAt magic t r) r s) t p q h m)
-    (by (ltb soFar (length t)) (misfitAt magic t p) refl refl)
+pub carried : (test : ℕ → Bool) (t : List ℕ) (p q soFar : ℕ) → p < length t → nextOf t p ≡ At q
+    → firstSoFar test t (laterOf (length t) soFar p (test p)) q ≡ firstSoFar test t soFar p
+carried test t p q soFar h m =
+    rw (walk-more (length t) (λ (r : ℕ). length t) (λ (r s : ℕ). pick (test r) r s) t p q h m)
+    (by (ltb soFar (length t)) (test p) refl refl)
   where
-    by : (a b : Bool) → ltb soFar (length t) ≡ a → misfitAt magic t p ≡ b
-        → firstMisfit magic t (laterOf magic t p soFar) q
-        ≡ pick (ltb soFar (length t)) soFar (pick (misfitAt magic t p) p (misfit magic t q))
+    by : (a b : Bool) → ltb soFar (length t) ≡ a → test p ≡ b
+        → firstSoFar test t (laterOf (length t) soFar p (test p)) q
+        ≡ pick (ltb soFar (length t)) soFar (pick (test p) p (first test t q))
     by true b ea eb = simp ea
     by false true ea eb = simp (ea, eb, lt-ltb p (length t) h)
     by false false ea eb = simp (ea, eb)
+
+-- it stays inside the tail
+pub later-inside : (n soFar p : ℕ) (passes : Bool) → soFar ≤ n → p < n → laterOf n soFar p passes ≤ n
+later-inside n soFar p passes h l = by (ltb soFar n) passes
+  where
+    by : (a b : Bool) → pick a soFar (pick b p soFar) ≤ n
+    by true b = h
+    by false true = omega arith
+    by false false = h
+
+-- and at the end it is what was found
+pub settled : (soFar n : ℕ) → soFar ≤ n → soFar ≡ pick (ltb soFar n) soFar n
+settled soFar n h = by (ltb soFar n) refl
+  where
+    by : (a : Bool) → ltb soFar n ≡ a → soFar ≡ pick a soFar n
+    by true e = refl
+    by false e = let k = ltb-false soFar n e in omega arith
+
+-- the test of a TLV by its number and length
+pub misfit-by : (magic : ℕ) (t : List ℕ) (p : ℕ) {x : Numbered} {l : ℕ} {b : Bool} → x ≡ numbered magic t p → l ≡ sizeAt t p → b ≡ misfitBy x l
+    → b ≡ misfitAt magic t p
+unfolding misfitAt
+misfit-by magic t p ex el eb = rw (← ex, ← el) eb
+
+pub faulty-either : (b : Bool) → pick b Faulty Faulty ≡ Faulty
+faulty-either true = refl
+faulty-either false = refl
+
+no-place : {p : ℕ} → Faulty ≡ SuffixAt p → ⊥
+no-place e = let z : _≡_ {A = ℕ} 0 1 = cc in omega arith
+
+no-refusal : {x : Refusal} → Refused x ≡ Done → ⊥
+no-refusal e = let z : _≡_ {A = ℕ} 0 1 = cc in omega arith
 
 -- a place that was found is that of a whole TLV, which is what was looked for
 pub place-found : (what : Sought) (t : List ℕ) {p : ℕ} → p ≡ first (soughtAt what t) t 0 → p < length t → Found (soughtAt what t) t p
@@ -51,3 +88,24 @@ told-check magic t = by (whole t) (eqb (misfit magic t 0) (length t)) refl refl
     by true true ea eb = simp (ea, eb)
     by true false ea eb = simp (ea, eb)
     by false b ea eb = simp ea
+
+-- a tail in which nothing is wrong passes the checks, and the place told is that of its first suffix; any other does not
+module _ (magic : ℕ) (t : List ℕ) where
+  pub sound-check : {p : ℕ} → soundOf magic t ≡ SuffixAt p → (tailCheck magic t ≡ Done) × (p ≡ first (suffixAt magic t) t 0)
+  unfolding soundOf tailCheck refuse
+  sound-check {p} = by (whole t) (eqb (misfit magic t 0) (length t)) refl refl
+    where
+      by : (a b : Bool) → whole t ≡ a → eqb (misfit magic t 0) (length t) ≡ b
+          → soundOf magic t ≡ SuffixAt p → (tailCheck magic t ≡ Done) × (p ≡ first (suffixAt magic t) t 0)
+      by true true ea eb e = (rw (ea, eb), let k : SuffixAt (first (suffixAt magic t) t 0) ≡ SuffixAt p = rw (ea, eb) at e in cc)
+      by true false ea eb e = absurd (no-place (rw (ea, eb) at e))
+      by false b ea eb e = absurd (no-place (rw ea at e))
+
+  pub faulty-check : soundOf magic t ≡ Faulty → tailCheck magic t ≡ Done → ⊥
+  unfolding soundOf tailCheck refuse
+  faulty-check = by (whole t) (eqb (misfit magic t 0) (length t)) refl refl
+    where
+      by : (a b : Bool) → whole t ≡ a → eqb (misfit magic t 0) (length t) ≡ b → soundOf magic t ≡ Faulty → tailCheck magic t ≡ Done → ⊥
+      by true true ea eb e d = no-place (sym (rw (ea, eb) at e))
+      by true false ea eb e d = no-refusal (rw (ea, eb) at d)
+      by false b ea eb e d = no-refusal (rw ea at d)

@@ -1,11 +1,13 @@
 -- What it says of a TLV that it has a form.
-use Prim.Native.Nat.{ℕ, _+_, _≤_}
+use Prim.Native.Nat.{ℕ, _+_, _*_, _/_, _%_, _<_, _≤_}
 use mathlib.Core.Path.{_≡_, refl}
 use mathlib.Core.List.{List}
 use mathlib.Core.Bool.{Bool, true, false, _&&_}
 use native.Mathlib.Omega.{arith}
-use borrow.Author.Tests.{eqb-true, leb-true}
+use borrow.Author.Tests.{eqb-true, eqb-false, leb-true, eq-eqb, ne-eqb}
+use lib.Dec.{eqb}
 use Rattle.octets.specs.Be.{be}
+use Rattle.octets.proofs.Laws.{be-split}
 use Rattle.refusal.specs.Choice.{pick}
 use Rattle.tlv.specs.Walk.{typeAt, sizeAt}
 use Rattle.tlv.specs.Form.{wrForm, HasForm, numberAt, numbered, isLink, linkAt}
@@ -42,3 +44,18 @@ of-number test other magic t p e = of-form (wrForm magic) t p (by (HasForm (wrFo
 pub link-form : (magic : ℕ) (t : List ℕ) (p : ℕ) → linkAt magic t p ≡ true → OfForm (wrForm magic) t p
 unfolding linkAt
 link-form magic t p e = of-number isLink refl magic t p e
+
+-- six octets and a number, by the last two and the first four
+module _ (t : List ℕ) (p six : ℕ) {y : ℕ} (small : y < 65536) (low : y ≡ be 2 t (p + 8)) where
+  whole-six : be 6 t (p + 4) ≡ be 4 t (p + 4) * 65536 + y
+  whole-six = let e : p + 4 + 4 ≡ p + 8 = omega arith in rw (be-split 4 2 t (p + 4), e, low)
+
+  pub six-away : (y ≡ six % 65536 → ⊥) → eqb (be 6 t (p + 4)) six ≡ false
+  six-away h = let w = whole-six in ne-eqb (be 6 t (p + 4)) six (λ e. h (omega arith))
+
+  pub six-rest : {x : ℕ} → x ≡ be 4 t (p + 4) → y ≡ six % 65536 → eqb (be 6 t (p + 4)) six ≡ eqb x (six / 65536)
+  six-rest {x} high h = by (eqb x (six / 65536)) refl
+    where
+      by : (b : Bool) → eqb x (six / 65536) ≡ b → eqb (be 6 t (p + 4)) six ≡ b
+      by true e = let w = whole-six in let k = eqb-true x (six / 65536) e in eq-eqb (be 6 t (p + 4)) six (omega arith)
+      by false e = let w = whole-six in let k = eqb-false x (six / 65536) e in ne-eqb (be 6 t (p + 4)) six (λ z. k (omega arith))

@@ -51,6 +51,10 @@ next-fits t p {q} h =
 pub next-whole : (t : List ℕ) (p : ℕ) {q : ℕ} → nextOf t p ≡ At q → Fits t p
 next-whole t p h = let n = next-fits t p h in record { fits = omega arith }
 
+-- its length, from where it stands and ends
+pub next-size : (t : List ℕ) (p : ℕ) {q : ℕ} → nextOf t p ≡ At q → q - p - 4 ≡ sizeAt t p
+next-size t p h = let n = next-fits t p h in omega arith
+
 after-same : {A : Type 0} (bad : A) (n : Next) {k l : ℕ → A} → ((q : ℕ) → n ≡ At q → k q ≡ l q) → after n bad k ≡ after n bad l
 after-same bad (At q) h = h q refl
 after-same bad Bad h = refl

@@ -13,7 +13,9 @@ use Rattle.tlv.specs.Form.{misfitAt, suffixAt, linkAt}
 use Rattle.tlv.specs.declared.walk.Sought.{Sought}
 use Rattle.tlv.specs.declared.walk.Sought.the-variants.{OfType, Suffix, Link}
 use Rattle.tlv.specs.declared.walk.Fault.{Fault}
-use Rattle.tlv.specs.declared.walk.Fault.the-variants.{Sound, Broken, Misfit}
+use Rattle.tlv.specs.declared.walk.Fault.the-variants as fault
+use Rattle.tlv.specs.declared.walk.Sound.{Sound}
+use Rattle.tlv.specs.declared.walk.Sound.the-variants.{SuffixAt, Faulty}
 
 -- what a walk looks for
 abbrev pub soughtAt : Sought → List ℕ → ℕ → Bool
@@ -40,14 +42,21 @@ tailCheck magic t =
 unfoldable pub faultOf : ℕ → List ℕ → Fault
 faultOf magic t =
     pick (whole t)
-    (pick (eqb (misfit magic t 0) (length t)) Sound (Misfit (misfit magic t 0)))
-    (Broken (broken t 0))
+    (pick (eqb (misfit magic t 0) (length t)) fault.Sound (fault.Misfit (misfit magic t 0)))
+    (fault.Broken (broken t 0))
 
 abbrev pub outcomeOf : Fault → Outcome
-outcomeOf Sound = Done
-outcomeOf (Broken p) = Refused Tlv
-outcomeOf (Misfit p) = Refused WrBad
+outcomeOf fault.Sound = Done
+outcomeOf (fault.Broken p) = Refused Tlv
+outcomeOf (fault.Misfit p) = Refused WrBad
 
--- the first misfit so far, with the TLV at p looked at too
-abbrev pub laterOf : ℕ → List ℕ → ℕ → ℕ → ℕ
-laterOf magic t p soFar = pick (ltb soFar (length t)) soFar (pick (misfitAt magic t p) p soFar)
+-- where the first suffix stands of a tail in which nothing is wrong
+unfoldable pub soundOf : ℕ → List ℕ → Sound
+soundOf magic t =
+    pick (whole t)
+    (pick (eqb (misfit magic t 0) (length t)) (SuffixAt (first (suffixAt magic t) t 0)) Faulty)
+    Faulty
+
+-- the first place so far that passed a test, with p looked at too
+abbrev pub laterOf : ℕ → ℕ → ℕ → Bool → ℕ
+laterOf end soFar p passes = pick (ltb soFar end) soFar (pick passes p soFar)

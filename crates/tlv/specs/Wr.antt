@@ -18,11 +18,15 @@ use Rattle.tlv.specs.declared.wr.LinkFound.the-variants as found
 abbrev pub flagsAt : List ℕ → ℕ → ℕ
 flagsAt t p = be 2 t (p + 12) % 16
 
+-- what a suffix at p says, none at the end
+abbrev pub suffixAs : List ℕ → ℕ → Suffix
+suffixAs t p = pick (ltb p (length t)) (Flags (flagsAt t p)) Absent
+
 -- "The first ANN_SUFIX counts."
 unfoldable pub suffixIn : ℕ → List ℕ → Suffix
 suffixIn magic t =
     let p = first (suffixAt magic t) t 0 in
-    pick (ltb p (length t)) (Flags (flagsAt t p)) Absent
+    suffixAs t p
 
 -- "An Announce without the suffix counts as a plain PTP master, wrFlags 0."
 abbrev pub wrFlagsOf : Suffix → ℕ

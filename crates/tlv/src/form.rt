@@ -3,8 +3,8 @@
 // A form is a type and the six octets behind the length, at 4 to 9; White Rabbit's are its OUI, the set magic and
 // version 1. At 10 stands the message number, at 12 the data.
 ghost use mathlib.Core.Path.{_≡_};
-ghost use Rattle.tlv.specs.Walk.{Fits};
-ghost use Rattle.tlv.specs.Form.{wrForm, HasForm, dataOctets, isMisfit, numbered, misfitAt, suffixAt, linkAt};
+ghost use Rattle.tlv.specs.Walk.{sizeAt, Fits};
+ghost use Rattle.tlv.specs.Form.{wrForm, HasForm, dataOctets, isMisfit, numbered, misfitBy, isSuffix, isLink};
 
 pub struct Form {
     pub kind: u16,
@@ -46,17 +46,23 @@ pub fn wr_form(magic: u16) -> Form
     }
 }
 
-fn has_form(t: &[u8], at: usize, f: Form) -> bool
+// Whether the TLV at `at`, whose length is `l`, is of a form. Its six octets are looked at as two and four, each
+// one load.
+fn has_form(t: &[u8], at: usize, l: usize, f: Form) -> bool
     requires { ⌜ Fits (now t) at ⌝ }
+    requires { ⌜ l ≡ sizeAt (now t) at ⌝ }
     ensures { λ r. ⌜ r ≡ HasForm f (now (t .entry)) at ⌝ }
 {
     if octets::held::u16_at(t, at) != f.kind {
         return false;
     }
-    if octets::held::u16_at(t, at + 2) < 8 {
+    if l < 8 {
         return false;
     }
-    octets::held::u48_at(t, at + 4) == f.six
+    if octets::held::u16_at(t, at + 8) as u64 != f.six % 65536 {
+        return false;
+    }
+    octets::held::u32_at(t, at + 4) as u64 == f.six / 65536
 }
 
 pub fn data_size(number: u16) -> DataSize
@@ -75,54 +81,52 @@ pub fn data_size(number: u16) -> DataSize
 }
 
 // Whether L is wrong for a message with data of that size: L = 8 + N.
-fn misfits(size: DataSize, l: u16) -> bool
+fn wrong_size(size: DataSize, l: usize) -> bool
     ensures { λ r. ⌜ r ≡ isMisfit size l ⌝ }
 {
     match size {
-        DataSize::Octets(n) => l as u32 != 8 + n as u32,
+        DataSize::Octets(n) => l != 8 + n as usize,
         DataSize::Unlisted => false,
     }
 }
 
-// The number of the TLV at `at`, if it is in White Rabbit form.
-fn number_at(t: &[u8], at: usize, magic: u16) -> Numbered
+// The number of the TLV at `at`, whose length is `l`, if it is in White Rabbit form.
+pub fn number_at(t: &[u8], at: usize, l: usize, magic: u16) -> Numbered
     requires { ⌜ Fits (now t) at ⌝ }
+    requires { ⌜ l ≡ sizeAt (now t) at ⌝ }
     ensures { λ r. ⌜ r ≡ numbered magic (now (t .entry)) at ⌝ }
 {
-    if has_form(t, at, wr_form(magic)) {
+    if has_form(t, at, l, wr_form(magic)) {
         return Numbered::Number(octets::held::u16_at(t, at + 10));
     }
     Numbered::Other
 }
 
-// Whether the TLV at `at` is a known message with a wrong data size.
-pub fn is_misfit(t: &[u8], at: usize, magic: u16) -> bool
-    requires { ⌜ Fits (now t) at ⌝ }
-    ensures { λ r. ⌜ r ≡ misfitAt magic (now (t .entry)) at ⌝ }
+// Whether a TLV of length `l` is a known message with a wrong data size.
+pub fn misfits(x: Numbered, l: usize) -> bool
+    ensures { λ r. ⌜ r ≡ misfitBy x l ⌝ }
 {
-    match number_at(t, at, magic) {
-        Numbered::Number(n) => misfits(data_size(n), octets::held::u16_at(t, at + 2)),
+    match x {
+        Numbered::Number(n) => wrong_size(data_size(n), l),
         Numbered::Other => false,
     }
 }
 
-// Whether the TLV at `at` is an ANN_SUFIX.
-pub fn is_suffix(t: &[u8], at: usize, magic: u16) -> bool
-    requires { ⌜ Fits (now t) at ⌝ }
-    ensures { λ r. ⌜ r ≡ suffixAt magic (now (t .entry)) at ⌝ }
+// Whether a TLV is an ANN_SUFIX.
+pub fn is_suffix(x: Numbered) -> bool
+    ensures { λ r. ⌜ r ≡ isSuffix x ⌝ }
 {
-    match number_at(t, at, magic) {
+    match x {
         Numbered::Number(n) => n == ANN_SUFIX,
         Numbered::Other => false,
     }
 }
 
-// Whether the TLV at `at` is one of the six link messages, which are numbered from SLAVE_PRESENT to MODE_ON.
-pub fn is_link(t: &[u8], at: usize, magic: u16) -> bool
-    requires { ⌜ Fits (now t) at ⌝ }
-    ensures { λ r. ⌜ r ≡ linkAt magic (now (t .entry)) at ⌝ }
+// Whether a TLV is one of the six link messages, which are numbered from SLAVE_PRESENT to MODE_ON.
+pub fn is_link(x: Numbered) -> bool
+    ensures { λ r. ⌜ r ≡ isLink x ⌝ }
 {
-    match number_at(t, at, magic) {
+    match x {
         Numbered::Number(n) => (SLAVE_PRESENT <= n) & (n <= MODE_ON),
         Numbered::Other => false,
     }

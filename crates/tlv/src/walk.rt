@@ -3,7 +3,8 @@ ghost use mathlib.Core.Path.{_≡_};
 ghost use Prim.Native.Nat.{_≤_};
 ghost use lib.ListN.{length};
 ghost use Rattle.tlv.specs.Walk.{nextOf, first, dataAt, Fits};
-ghost use Rattle.tlv.specs.Faults.{soughtAt, laterOf, faultOf, tailCheck, outcomeOf};
+ghost use Rattle.tlv.specs.Faults.{soughtAt, laterOf, faultOf, soundOf, tailCheck, outcomeOf};
+use crate::form;
 use refusal::Outcome;
 use refusal::Refusal;
 
@@ -28,6 +29,12 @@ pub enum Fault {
     Misfit(usize),
 }
 
+// Where the first suffix of a tail stands in which nothing is wrong, its end where it has none; or that something is.
+pub enum Sound {
+    SuffixAt(usize),
+    Faulty,
+}
+
 fn step(t: &[u8], at: usize) -> Next
     requires { ⌜ at ≤ length (now t) ⌝ }
     ensures { λ r. ⌜ r ≡ nextOf (now (t .entry)) at ⌝ }
@@ -49,10 +56,11 @@ fn is_sought(t: &[u8], at: usize, what: Sought) -> bool
     requires { ⌜ Fits (now t) at ⌝ }
     ensures { λ r. ⌜ r ≡ soughtAt what (now (t .entry)) at ⌝ }
 {
+    let l = octets::held::u16_at(t, at + 2) as usize;
     match what {
         Sought::OfType(kind) => octets::held::u16_at(t, at) == kind,
-        Sought::Suffix(magic) => crate::form::is_suffix(t, at, magic),
-        Sought::Link(magic) => crate::form::is_link(t, at, magic),
+        Sought::Suffix(magic) => form::is_suffix(form::number_at(t, at, l, magic)),
+        Sought::Link(magic) => form::is_link(form::number_at(t, at, l, magic)),
     }
 }
 
@@ -87,18 +95,17 @@ pub fn data_of(t: &[u8], kind: u16) -> &[u8]
     }
 }
 
-// The first misfit so far, `none` (the end) while there is none: `at` where that is one and no other came before.
-fn later(t: &[u8], at: usize, magic: u16, misfit: usize) -> usize
-    requires { ⌜ Fits (now t) at ⌝ }
-    ensures { λ r. ⌜ r ≡ laterOf magic (now (t .entry)) at misfit ⌝ }
+// The first place so far that passed a test, the end while there is none: `at` where that passes and no other came before.
+fn later(end: usize, so_far: usize, at: usize, passes: bool) -> usize
+    ensures { λ r. ⌜ r ≡ laterOf end «so_far» at passes ⌝ }
 {
-    if misfit < t.len() {
-        return misfit;
+    if so_far < end {
+        return so_far;
     }
-    if crate::form::is_misfit(t, at, magic) {
+    if passes {
         return at;
     }
-    misfit
+    so_far
 }
 
 // What is wrong with a tail, found in one walk. That it breaks off counts before a misfit, wherever the two stand.
@@ -111,13 +118,36 @@ pub fn first_fault(t: &[u8], magic: u16) -> Fault
         let Next::At(p) = step(t, at) else {
             return Fault::Broken(at);
         };
-        misfit = later(t, at, magic, misfit);
+        let l = p - at - 4;
+        let x = form::number_at(t, at, l, magic);
+        misfit = later(t.len(), misfit, at, form::misfits(x, l));
         at = p;
     }
     if misfit < t.len() {
         return Fault::Misfit(misfit);
     }
     Fault::Sound
+}
+
+// The walk of a reader that hopes for a sound tail: it ends at the first thing that is wrong, and does not say what.
+pub fn sound_suffix(t: &[u8], magic: u16) -> Sound
+    ensures { λ r. ⌜ r ≡ soundOf magic (now (t .entry)) ⌝ }
+{
+    let mut suffix = t.len();
+    let mut at: usize = 0;
+    while at < t.len() {
+        let Next::At(p) = step(t, at) else {
+            return Sound::Faulty;
+        };
+        let l = p - at - 4;
+        let x = form::number_at(t, at, l, magic);
+        if form::misfits(x, l) {
+            return Sound::Faulty;
+        }
+        suffix = later(t.len(), suffix, at, form::is_suffix(x));
+        at = p;
+    }
+    Sound::SuffixAt(suffix)
 }
 
 // The number alone of a fault.

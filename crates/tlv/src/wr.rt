@@ -3,7 +3,7 @@
 ghost use mathlib.Core.Path.{_≡_};
 ghost use Prim.Native.Nat.{_+_, _≤_};
 ghost use lib.ListN.{length};
-ghost use Rattle.tlv.specs.Wr.{suffixIn, wrFlagsOf, linkMessageAt, linkIn};
+ghost use Rattle.tlv.specs.Wr.{suffixAs, suffixIn, wrFlagsOf, linkMessageAt, linkIn};
 use crate::form::CALIBRATE;
 use crate::form::CALIBRATED;
 use crate::form::LOCK;
@@ -32,15 +32,21 @@ pub enum LinkFound {
     Absent,
 }
 
-// The first ANN_SUFIX of a tail. Of its wrFlags the four bits that mean something are kept.
-pub fn first_suffix(t: &[u8], magic: u16) -> Suffix
-    ensures { λ r. ⌜ r ≡ suffixIn magic (now (t .entry)) ⌝ }
+// The ANN_SUFIX that a walk found at `p`, none at the end. Of its wrFlags the four bits that mean something are kept.
+pub fn suffix_at(t: &[u8], p: usize) -> Suffix
+    ensures { λ r. ⌜ r ≡ suffixAs (now (t .entry)) p ⌝ }
 {
-    let p = crate::walk::place(t, Sought::Suffix(magic));
     if p < t.len() {
         return Suffix::Flags(octets::u16_at(t, p + 12) % 16);
     }
     Suffix::Absent
+}
+
+// The first ANN_SUFIX of a tail.
+pub fn first_suffix(t: &[u8], magic: u16) -> Suffix
+    ensures { λ r. ⌜ r ≡ suffixIn magic (now (t .entry)) ⌝ }
+{
+    suffix_at(t, crate::walk::place(t, Sought::Suffix(magic)))
 }
 
 // wrFlags; an Announce without the suffix counts as a plain PTP master, wrFlags 0.

@@ -1,84 +1,149 @@
--- `announce::read_announce` meets its contract: what was accepted has its fixed part, an Announce 64 octets.
-use mathlib.Core.Path.{_≡_, sym, _∙_}
+-- `announce::read_announce` meets its contract: what is read in one walk passes the checks, and what is left to them
+-- cannot be an Announce that they accept.
+use Prim.Native.Nat.{_-_}
+use mathlib.Core.Path.{_≡_, sym, ap, _∙_}
 use native.Mathlib.Omega.{arith}
-use borrow.Author.Tests.{eq-eqb, ne-eqb}
+use borrow.Author.Tests.{eq-eqb}
+use lib.ListN.{take, drop}
 use Rattle.refusal.specs.Choice.{refuse}
 use Rattle.refusal.specs.declared.Outcome.the-variants.{Done}
-use Rattle.message.specs.Fields.{typeOf, fixedSize}
+use Rattle.tlv.specs.Wr.{suffixIn, wrFlagsOf}
+use Rattle.tlv.specs.Faults.{soundOf}
+use Rattle.tlv.specs.declared.walk.Sound.the-variants.{SuffixAt}
+use Rattle.tlv.proofs.FaultLaws.{sound-check, faulty-check}
+use Rattle.message.specs.Fields.{lengthOf, tailOf}
 use Rattle.message.specs.Reading.{checkOf}
 use Rattle.message.specs.Parts.{announcedOf}
 use Rattle.message.specs.declared.announce.Announced.the-variants as announced
-use Rattle.message.proofs.Laws.{bounded, fixed-part}
+use Rattle.message.proofs.Laws.{accepted}
+use Rattle.message.proofs.AnnounceLaws.{Sized, sized, sized-tail, unsized, unstamped, sized-check, by-checks}
 use borrow.Author.Needs.{needs}
 use Rattle.message.proofs.announce.read_announce.Statement.{statement}
 use Rattle.message.proofs.announce.read_announce.Tie as tie
 
--- the checks are passed
-done : (c : tie.After-enum-told) → let a = c .before .before .before .before .args in checkOf (a .magic) (a .s .now) ≡ Done
-done c = sym (c .before .before .check .ensures) ∙ c .enum-told .given .1
+-- where the length is told, the octets are an Announce as far as that goes
+sizes : (c : tie.Else1) → let a = c .before in let s = a .before .before .args .s .now in Sized s × (lengthOf s ≡ a .announce-length .result)
+sizes c = sized _ (λ e. c .if1 .left (sym e)) (sym (c .before .announce-length .ensures))
 
-check-requires : tie.Need-check-requires
-check-requires c κs = search needs
+-- the part that is walked over is the tail
+tail-is : (c : tie.After-t) → let e1 = c .before .before .before in let s = e1 .before .before .before .args .s .now in
+    tailOf s ≡ take (e1 .before .announce-length .result - 64) (drop 64 s)
+tail-is c = sized-tail _ (sizes (c .before .before .before))
 
-enum-known-x : tie.Need-enum-known-x
-enum-known-x c = search needs
+-- nothing is wrong with it
+sound : (c : tie.After-known-told) → let t = c .before .before .before .before in let s = t .before .before .before .before .before .before .args in
+    soundOf (s .magic) (tailOf (s .s .now)) ≡ SuffixAt (c .before .p .given .0 .0)
+sound c =
+    let f = c .before .before .before in
+    rw (tail-is (f .before)) (sym (f .sound-suffix .ensures) ∙ c .before .p .given .1)
+
+announce-length-requires : tie.Need-announce-length-requires
+announce-length-requires c κs = search needs
+
+refusal-of-requires : tie.Need-refusal-of-requires
+refusal-of-requires c κs = search needs
+
+returns : tie.Need-returns
+returns c =
+    ap announced.Refused (c .refusal-of .ensures)
+    ∙ by-checks _ _ (unsized _ _ (sym (c .before .before .announce-length .ensures) ∙ c .before .if1 .taken))
+
+u32-at-requires : tie.Need-u32-at-requires
+u32-at-requires c κs = let z = sizes c .0 .room in omega arith
+
+refusal-of-requires-2 : tie.Need-refusal-of-requires-2
+refusal-of-requires-2 c κs = search needs
+
+returns-2 : tie.Need-returns-2
+returns-2 c =
+    let n = c .before .before in
+    ap announced.Refused (c .refusal-of2 .ensures) ∙ by-checks _ _ (unstamped _ _ (rw (n .u32-at .ensures) at (c .before .if2 .taken)))
+
+sub-t : tie.Need-sub-t
+sub-t c = let z = sizes (c .before .before) in let l = z .0 .least in omega arith
+
+part-t-start : tie.Need-part-t-start
+part-t-start c = let z = sizes (c .before .before) in let l = z .0 .least in omega arith
+
+part-t-end : tie.Need-part-t-end
+part-t-end c = let z = sizes (c .before .before) in let l = z .0 .lent in omega arith
+
+sound-suffix-requires : tie.Need-sound-suffix-requires
+sound-suffix-requires c κs = search needs
+
+enum-known-p : tie.Need-enum-known-p
+enum-known-p c = search needs
 
 enum-told : tie.Need-enum-told
 enum-told c = search needs
 
-shared-slice-read-if1 : tie.Need-shared-slice-read-if1
-shared-slice-read-if1 c = let b = bounded _ _ (done (c .before)) in omega arith
+refusal-of-requires-3 : tie.Need-refusal-of-requires-3
+refusal-of-requires-3 c κs = search needs
 
-checked-tail-requires : tie.Need-checked-tail-requires
-checked-tail-requires c κs = bounded _ _ (done (c .before .before))
+returns-3 : tie.Need-returns-3
+returns-3 c =
+    let f = c .before .before .before in
+    ap announced.Refused (c .refusal-of3 .ensures)
+    ∙ by-checks _ _
+    (λ d k. faulty-check _ _ (sym (f .sound-suffix .ensures) ∙ c .before .enum-told .given .1) (rw (tail-is (f .before)) at (accepted _ _ d .tail)))
 
-first-suffix-requires : tie.Need-first-suffix-requires
-first-suffix-requires c κs = search needs
-
-header-of-requires : tie.Need-header-of-requires
-header-of-requires c κs = let b = bounded _ _ (done (c .before .before .before .before)) in omega arith
-
-announce-of-requires : tie.Need-announce-of-requires
-unfolding fixedSize
-announce-of-requires c κs =
-    let k = c .before .before .before in
-    rw (k .if1 .taken) at (fixed-part _ _ (done (k .before .before)) .1)
+suffix-at-requires : tie.Need-suffix-at-requires
+suffix-at-requires c κs = search needs
 
 wr-flags-requires : tie.Need-wr-flags-requires
 wr-flags-requires c κs = search needs
 
-returns : tie.Need-returns
-unfolding announcedOf
-returns c = rw (← c .before .before .before .check .ensures, c .before .x .given .1)
+header-of-requires : tie.Need-header-of-requires
+header-of-requires c κs =
+    let e1 = c .before .before .before .before .before .before .before .before .before in
+    let z = sizes e1 .0 .room in
+    omega arith
 
-returns-2 : tie.Need-returns-2
-unfolding announcedOf refuse
-returns-2 c =
-    let n = c .before in
-    let h = n .before in
-    let f = h .before in
-    let t = f .before in
-    let k = t .before in
-    rw (done (k .before .before), eq-eqb _ _ (k .if1 .taken), ← t .checked-tail .ensures, ← f .first-suffix .ensures)
-    (λ i. announced.Whole (record { header = h .header-of .ensures i; announce = n .announce-of .ensures i; flags = c .wr-flags .ensures i }))
+announce-of-requires : tie.Need-announce-of-requires
+announce-of-requires c κs =
+    let n = c .before .before .before .before .before .before .before .before .before in
+    (sizes (n .before) .0 .room, n .u32-at .ensures)
 
-returns-3 : tie.Need-returns-3
-unfolding announcedOf refuse
-returns-3 c = rw (done (c .before .before), ne-eqb _ _ (c .if1 .left))
+returns-4 : tie.Need-returns-4
+unfolding announcedOf refuse suffixIn
+returns-4 c =
+    let h = c .before in
+    let w = h .before in
+    let x = w .before in
+    let k = x .before in
+    let f = k .before .before .before in
+    let e2 = f .before .before in
+    let n = e2 .before in
+    let z = sizes (n .before) .0 in
+    let q = sound-check _ _ (sound k) in
+    let d = sized-check _ _ z (rw (n .u32-at .ensures) at (e2 .if2 .left)) (q .0) in
+    rw (d, eq-eqb _ _ (z .type), ← q .1, tail-is (f .before))
+    (λ i. announced.Whole (record {
+      header = h .header-of .ensures i;
+      announce = c .announce-of .ensures i;
+      flags = (w .wr-flags .ensures ∙ ap wrFlagsOf (x .suffix-at .ensures)) i;
+    }))
 
 pub read-announce-spec : {M : Type 1} → statement M
 read-announce-spec =
     tie.close
     (tie.spec
-    check-requires
-    enum-known-x
+    announce-length-requires
+    refusal-of-requires
+    returns
+    u32-at-requires
+    refusal-of-requires-2
+    returns-2
+    sub-t
+    part-t-start
+    part-t-end
+    sound-suffix-requires
+    enum-known-p
     enum-told
-    shared-slice-read-if1
-    checked-tail-requires
-    first-suffix-requires
+    refusal-of-requires-3
+    returns-3
+    suffix-at-requires
+    wr-flags-requires
     header-of-requires
     announce-of-requires
-    wr-flags-requires
-    returns
-    returns-2
-    returns-3)
+    returns-4)

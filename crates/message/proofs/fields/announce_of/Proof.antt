@@ -9,8 +9,8 @@ use borrow.Author.Needs.{needs}
 use Rattle.message.proofs.fields.announce_of.Statement.{statement}
 use Rattle.message.proofs.fields.announce_of.Tie as tie
 
-stamp-of-requires : tie.Need-stamp-of-requires
-stamp-of-requires c κs = search needs
+stamp-with-requires : tie.Need-stamp-with-requires
+stamp-with-requires c κs = search needs
 
 u16-at-requires : tie.Need-u16-at-requires
 u16-at-requires c κs = search needs
@@ -18,20 +18,20 @@ u16-at-requires c κs = search needs
 signed16-requires : tie.Need-signed16-requires
 signed16-requires c κs = search needs
 
-shared-slice-read-t6 : tie.Need-shared-slice-read-t6
-shared-slice-read-t6 c = search needs
+shared-slice-read-t7 : tie.Need-shared-slice-read-t7
+shared-slice-read-t7 c = search needs
 
-shared-slice-read-t8 : tie.Need-shared-slice-read-t8
-shared-slice-read-t8 c = search needs
+shared-slice-read-t9 : tie.Need-shared-slice-read-t9
+shared-slice-read-t9 c = search needs
 
-shared-slice-read-t10 : tie.Need-shared-slice-read-t10
-shared-slice-read-t10 c = search needs
+shared-slice-read-t11 : tie.Need-shared-slice-read-t11
+shared-slice-read-t11 c = search needs
 
 u16-at-requires-2 : tie.Need-u16-at-requires-2
 u16-at-requires-2 c κs = search needs
 
-shared-slice-read-t13 : tie.Need-shared-slice-read-t13
-shared-slice-read-t13 c = search needs
+shared-slice-read-t14 : tie.Need-shared-slice-read-t14
+shared-slice-read-t14 c = search needs
 
 u64-at-requires : tie.Need-u64-at-requires
 u64-at-requires c κs = search needs
@@ -39,8 +39,8 @@ u64-at-requires c κs = search needs
 u16-at-requires-3 : tie.Need-u16-at-requires-3
 u16-at-requires-3 c κs = search needs
 
-shared-slice-read-t17 : tie.Need-shared-slice-read-t17
-shared-slice-read-t17 c = search needs
+shared-slice-read-t18 : tie.Need-shared-slice-read-t18
+shared-slice-read-t18 c = search needs
 
 returns : tie.Need-returns
 unfolding announceOf
@@ -53,7 +53,7 @@ returns c =
     let t = b .before in
     let s = t .before .before .args .s .now in
     λ i. record {
-      origin = t .stamp-of .ensures i;
+      origin = t .stamp-with .ensures i;
       utc = (toZ-ofZ w16 _ (record { sfits = u .signed16 .ok }) ∙ u .signed16 .ensures ∙ ap (toZ w16) (b .u16-at .ensures)) i;
       priority1 = getD s 47 0;
       class = getD s 48 0;
@@ -69,15 +69,15 @@ pub announce-of-spec : {M : Type 1} → statement M
 announce-of-spec =
     tie.close
     (tie.spec
-    stamp-of-requires
+    stamp-with-requires
     u16-at-requires
     signed16-requires
-    shared-slice-read-t6
-    shared-slice-read-t8
-    shared-slice-read-t10
+    shared-slice-read-t7
+    shared-slice-read-t9
+    shared-slice-read-t11
     u16-at-requires-2
-    shared-slice-read-t13
+    shared-slice-read-t14
     u64-at-requires
     u16-at-requires-3
-    shared-slice-read-t17
+    shared-slice-read-t18
     returns)

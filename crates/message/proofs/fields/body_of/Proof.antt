@@ -23,9 +23,14 @@ delay-resp-of-requires : tie.Need-delay-resp-of-requires
 unfolding fixedSize
 delay-resp-of-requires c κs = rw (c .match .keys4) at (c .before .before .before .pre .1)
 
+u32-at-requires : tie.Need-u32-at-requires
+u32-at-requires c κs = search needs
+
 announce-of-requires : tie.Need-announce-of-requires
 unfolding fixedSize
-announce-of-requires c κs = rw (c .match .keys5) at (c .before .before .before .pre .1)
+announce-of-requires c κs =
+    let k = c .before in
+    (rw (k .match .keys5) at (k .before .before .before .pre .1), c .u32-at .ensures)
 
 identity-at-requires : tie.Need-identity-at-requires
 identity-at-requires c κs = search needs
@@ -48,7 +53,7 @@ returns-4 c = rw (c .before .match .keys4) (ap body.DelayResp (c .delay-resp-of 
 
 returns-5 : tie.Need-returns-5
 unfolding bodyOf
-returns-5 c = rw (c .before .match .keys5) (ap body.Announce (c .announce-of .ensures))
+returns-5 c = rw (c .before .before .match .keys5) (ap body.Announce (c .announce-of .ensures))
 
 returns-6 : tie.Need-returns-6
 unfolding bodyOf
@@ -65,6 +70,7 @@ body-of-spec =
     stamp-of-requires-2
     stamp-of-requires-3
     delay-resp-of-requires
+    u32-at-requires
     announce-of-requires
     identity-at-requires
     returns

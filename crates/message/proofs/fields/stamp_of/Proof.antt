@@ -1,18 +1,16 @@
--- `fields::stamp_of` meets its contract: field by field.
-use Rattle.message.specs.Fields.{stampOf}
+-- `fields::stamp_of` meets its contract.
 use borrow.Author.Needs.{needs}
 use Rattle.message.proofs.fields.stamp_of.Statement.{statement}
 use Rattle.message.proofs.fields.stamp_of.Tie as tie
 
-u48-at-requires : tie.Need-u48-at-requires
-u48-at-requires c κs = search needs
-
 u32-at-requires : tie.Need-u32-at-requires
 u32-at-requires c κs = search needs
 
+stamp-with-requires : tie.Need-stamp-with-requires
+stamp-with-requires c κs = search needs
+
 returns : tie.Need-returns
-unfolding stampOf
-returns c = λ i. record { seconds = c .before .u48-at .ensures i; nanoseconds = c .u32-at .ensures i }
+returns c = search needs
 
 pub stamp-of-spec : {M : Type 1} → statement M
-stamp-of-spec = tie.close (tie.spec u48-at-requires u32-at-requires returns)
+stamp-of-spec = tie.close (tie.spec u32-at-requires stamp-with-requires returns)

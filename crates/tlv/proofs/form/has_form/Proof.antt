@@ -1,6 +1,7 @@
--- `form::has_form` meets its contract: the three tests, each where the code makes it.
+-- `form::has_form` meets its contract: the tests, each where the code makes it, and the six octets by two and four.
 use borrow.Author.Tests.{eq-eqb, ne-eqb, le-leb, lt-leb}
 use Rattle.tlv.specs.Form.{HasForm}
+use Rattle.tlv.proofs.FormLaws.{six-away, six-rest}
 use borrow.Author.Needs.{needs}
 use Rattle.tlv.proofs.form.has_form.Statement.{statement}
 use Rattle.tlv.proofs.form.has_form.Tie as tie
@@ -12,33 +13,50 @@ returns : tie.Need-returns
 unfolding HasForm
 returns c = rw (← c .before .before .u16-at .ensures, ne-eqb _ _ (c .if1 .taken))
 
+returns-2 : tie.Need-returns-2
+unfolding HasForm
+returns-2 c =
+    let e1 = c .before in
+    let s = e1 .before .before .before .before in
+    rw (← e1 .before .before .u16-at .ensures, eq-eqb _ _ (e1 .if1 .left), ← s .pre .1, lt-leb _ _ (c .if2 .taken))
+
 add-u16-at : tie.Need-add-u16-at
 add-u16-at c = search needs
 
 u16-at-requires-2 : tie.Need-u16-at-requires-2
 u16-at-requires-2 c κs = search needs
 
-returns-2 : tie.Need-returns-2
-unfolding HasForm
-returns-2 c =
-    let a2 = c .before in
-    let e1 = a2 .before in
-    rw (← e1 .before .before .u16-at .ensures, eq-eqb _ _ (e1 .if1 .left), ← a2 .u16-at2 .ensures, lt-leb _ _ (c .if2 .taken))
-
-add-u48-at : tie.Need-add-u48-at
-add-u48-at c = search needs
-
-u48-at-requires : tie.Need-u48-at-requires
-u48-at-requires c κs = search needs
+cast-if3 : tie.Need-cast-if3
+cast-if3 c = search needs
 
 returns-3 : tie.Need-returns-3
 unfolding HasForm
 returns-3 c =
+    let a2 = c .before .before in
+    let e2 = a2 .before in
+    let e1 = e2 .before in
+    let s = e1 .before .before .before .before in
+    rw (← e1 .before .before .u16-at .ensures, eq-eqb _ _ (e1 .if1 .left), ← s .pre .1, le-leb _ _ (e2 .if2 .left), six-away _ _ _ (a2 .u16-at2 .ok) (a2 .u16-at2 .ensures) (c .if3 .taken))
+
+add-u32-at : tie.Need-add-u32-at
+add-u32-at c = search needs
+
+u32-at-requires : tie.Need-u32-at-requires
+u32-at-requires c κs = search needs
+
+cast-result : tie.Need-cast-result
+cast-result c = search needs
+
+returns-4 : tie.Need-returns-4
+unfolding HasForm
+returns-4 c =
     let a3 = c .before in
-    let e2 = a3 .before in
-    let a2 = e2 .before in
-    let e1 = a2 .before in
-    rw (← e1 .before .before .u16-at .ensures, eq-eqb _ _ (e1 .if1 .left), ← a2 .u16-at2 .ensures, le-leb _ _ (e2 .if2 .left), ← a3 .u48-at .ensures)
+    let e3 = a3 .before in
+    let a2 = e3 .before .before in
+    let e2 = a2 .before in
+    let e1 = e2 .before in
+    let s = e1 .before .before .before .before in
+    rw (← e1 .before .before .u16-at .ensures, eq-eqb _ _ (e1 .if1 .left), ← s .pre .1, le-leb _ _ (e2 .if2 .left), six-rest _ _ _ (a2 .u16-at2 .ok) (a2 .u16-at2 .ensures) (a3 .u32-at .ensures) (e3 .if3 .left))
 
 pub has-form-spec : {M : Type 1} → statement M
 has-form-spec =
@@ -46,9 +64,12 @@ has-form-spec =
     (tie.spec
     u16-at-requires
     returns
+    returns-2
     add-u16-at
     u16-at-requires-2
-    returns-2
-    add-u48-at
-    u48-at-requires
-    returns-3)
+    cast-if3
+    returns-3
+    add-u32-at
+    u32-at-requires
+    cast-result
+    returns-4)

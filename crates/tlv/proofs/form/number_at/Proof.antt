@@ -26,7 +26,7 @@ add-u16-at : tie.Need-add-u16-at
 add-u16-at c = search needs
 
 u16-at-requires : tie.Need-u16-at-requires
-u16-at-requires c κs = let f = of-form _ _ _ (formed c) in omega (arith, f .size, c .before .before .before .before .pre .fits)
+u16-at-requires c κs = let f = of-form _ _ _ (formed c) in omega (arith, f .size, c .before .before .before .before .pre .0 .fits)
 
 returns : tie.Need-returns
 unfolding numbered

@@ -1,6 +1,6 @@
 -- `walk::first_fault` meets its contract: along the walk neither the first break nor the first misfit changes.
 use Prim.Native.Nat.{_-_, _≤_}
-use mathlib.Core.Path.{_≡_, refl, sym, ap, _∙_}
+use mathlib.Core.Path.{_≡_, refl, sym, _∙_}
 use native.Mathlib.Omega.{arith}
 use borrow.Author.Needs.{needs}
 use borrow.Author.Tests.{lt-ltb, le-ltb, eq-eqb}
@@ -8,16 +8,17 @@ use lib.Dec.{ltb}
 use lib.ListN.{length}
 use Rattle.refusal.specs.Choice.{pick}
 use Rattle.tlv.specs.Walk.{nextOf, broken}
+use Rattle.tlv.specs.Form.{misfitAt}
 use Rattle.tlv.specs.Faults.{misfit, faultOf}
 use Rattle.tlv.specs.declared.walk.Next.the-variants.{At}
-use Rattle.tlv.proofs.WalkLaws.{next-fits, next-whole, walk-end, walk-bad, walk-more}
-use Rattle.tlv.proofs.FaultLaws.{firstMisfit, carried, lt-eqb}
+use Rattle.tlv.proofs.WalkLaws.{next-fits, next-whole, next-size, walk-end, walk-bad, walk-more}
+use Rattle.tlv.proofs.FaultLaws.{firstSoFar, carried, misfit-by, lt-eqb}
 use Rattle.tlv.proofs.walk.first_fault.Statement.{statement}
 use Rattle.tlv.proofs.walk.first_fault.Tie as tie
 
 abbrev Inv-loop : tie.InvT-loop
 Inv-loop t magic first₀ at₀ soFar at =
-    (at ≤ length t) × (broken t at ≡ broken t 0) × (firstMisfit magic t soFar at ≡ misfit magic t 0)
+    (at ≤ length t) × (broken t at ≡ broken t 0) × (firstSoFar (misfitAt magic t) t soFar at ≡ misfit magic t 0)
 
 abbrev μ-loop : tie.MeasureT-loop
 μ-loop t magic first₀ at₀ soFar at = length t - at
@@ -60,20 +61,36 @@ returns c =
     sym (l .loop .inv .1) ∙ walk-bad _ _ _ _ _ h (sym (s .step .ensures) ∙ c .enum-told .given .1) in
     rw (b, lt-eqb _ _ h)
 
+sub-l : tie.Need-sub-l Inv-loop μ-loop
+sub-l c = let n = next-fits _ _ (stepped c) in omega arith
+
+sub-l-2 : tie.Need-sub-l-2 Inv-loop μ-loop
+sub-l-2 c = let n = next-fits _ _ (stepped c) in omega arith
+
+number-at-requires : tie.Need-number-at-requires Inv-loop μ-loop
+number-at-requires c κs = (next-whole _ _ (stepped c), next-size _ _ (stepped c))
+
+misfits-requires : tie.Need-misfits-requires Inv-loop μ-loop
+misfits-requires c κs = search needs
+
 later-requires : tie.Need-later-requires Inv-loop μ-loop
-later-requires c κs = next-whole _ _ (stepped c)
+later-requires c κs = search needs
 
 loop-less : tie.Need-loop-less Inv-loop μ-loop
-loop-less c = let n = next-fits _ _ (stepped (c .before)) in omega arith
+loop-less c = let n = next-fits _ _ (stepped (c .before .before .before)) in omega arith
 
 loop-again : tie.Need-loop-again Inv-loop μ-loop
 loop-again c =
-    let k = c .before in
+    let m = c .before in
+    let x = m .before in
+    let k = x .before in
     let i = k .before .before .before .before in
-    let l = i .before in (
+    let l = i .before in
+    let a = l .before .before .args in
+    let e = misfit-by _ _ _ (x .number-at .ensures) (next-size _ _ (stepped k)) (m .misfits .ensures) in (
       next-fits _ _ (stepped k) .1,
       sym (walk-more _ _ _ _ _ _ (i .loop-test .taken) (stepped k)) ∙ l .loop .inv .1,
-      rw (c .later .ensures) (carried _ _ _ _ _ (i .loop-test .taken) (stepped k)) ∙ l .loop .inv .2,
+      rw (c .later .ensures, e) (carried (misfitAt (a .magic) (a .t .now)) (a .t .now) (l .loop .at) _ (l .loop .misfit) (i .loop-test .taken) (stepped k)) ∙ l .loop .inv .2,
     )
 
 returns-2 : tie.Need-returns-2 Inv-loop μ-loop
@@ -99,6 +116,10 @@ first-fault-spec =
     enum-known-p
     enum-told
     returns
+    sub-l
+    sub-l-2
+    number-at-requires
+    misfits-requires
     later-requires
     loop-less
     loop-again

@@ -1,20 +1,16 @@
 -- `walk::later` meets its contract: its two tests.
 use borrow.Author.Tests.{lt-ltb, le-ltb}
-use borrow.Author.Needs.{needs}
 use Rattle.tlv.proofs.walk.later.Statement.{statement}
 use Rattle.tlv.proofs.walk.later.Tie as tie
 
 returns : tie.Need-returns
 returns c = rw (lt-ltb _ _ (c .if1 .taken))
 
-is-misfit-requires : tie.Need-is-misfit-requires
-is-misfit-requires c κs = search needs
-
 returns-2 : tie.Need-returns-2
-returns-2 c = let m = c .before in rw (le-ltb _ _ (m .before .if1 .left), ← m .is-misfit .ensures, c .if2 .taken)
+returns-2 c = rw (le-ltb _ _ (c .before .if1 .left), c .if2 .taken)
 
 returns-3 : tie.Need-returns-3
-returns-3 c = let m = c .before in rw (le-ltb _ _ (m .before .if1 .left), ← m .is-misfit .ensures, c .if2 .left)
+returns-3 c = rw (le-ltb _ _ (c .before .if1 .left), c .if2 .left)
 
 pub later-spec : {M : Type 1} → statement M
-later-spec = tie.close (tie.spec returns is-misfit-requires returns-2 returns-3)
+later-spec = tie.close (tie.spec returns returns-2 returns-3)
