@@ -58,7 +58,7 @@ static uint8_t *octets(int b)
 static void wrong(const char *what)
 {
     printf("%s, call %lu: %s\n", calling, calls, what);
-    _Exit(1);
+    exit(1);
 }
 
 static void expect(int holds, const char *what)

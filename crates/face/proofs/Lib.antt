@@ -1,2 +1,3 @@
 pub mod Widen
 pub mod RunLaws
+pub mod Determined

@@ -14,7 +14,7 @@ put-ranking-requires : tie.Need-put-ranking-requires
 put-ranking-requires c κs = search needs
 
 returns : tie.Need-returns
-returns c = 
+returns c =
     let r = c .before in
     through (λ (x : Ranking). codeOf (x .outcome)) (λ (x : Ranking). rankingWords x (r .before .before .before .args .list .now)) (r .rank-run .ensures) (c .put-ranking .ensures)
 
