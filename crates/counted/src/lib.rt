@@ -3,16 +3,7 @@
 // A message read: every field of it is added up, so that each is looked at once; a message that is refused gives the
 // refusal's number. An Announce with its suffix, written. A step of a link, and a measurement, whose answers are added up
 // in the same way; `ranking` has comparing, merging and ranking.
-use delay::Asymmetry;
-use delay::Corrections;
-use delay::Exchange;
-use delay::FineStamp;
-use delay::Latencies;
 use delay::Measurement;
-use delay::ScaledNs;
-use delay::ScaledPs;
-use delay::Stamp;
-use delay::Stamps;
 use link::Event;
 use links::Taken;
 use message::announce::Announced;
@@ -101,58 +92,11 @@ pub extern "C" fn dz_count_read(s: &[u8], magic: u16) -> u64 {
     }
 }
 
-fn stamp_at(seconds: u64, nanos: u64) -> Stamp {
-    Stamp {
-        seconds,
-        nanos: (nanos % 4_294_967_296) as u32,
-    }
-}
-
-fn fine_at(seconds: u64, nanos: u64, fraction: u64) -> FineStamp {
-    FineStamp {
-        seconds,
-        nanos: (nanos % 4_294_967_296) as u32,
-        fraction: (fraction % 65536) as u16,
-    }
-}
-
-fn stamps_of(w: &[u64; 18]) -> Stamps {
-    Stamps {
-        t1: stamp_at(w[0], w[1]),
-        t2: fine_at(w[4], w[5], w[6]),
-        t3: fine_at(w[7], w[8], w[9]),
-        t4: stamp_at(w[10], w[11]),
-    }
-}
-
-fn corrections_of(w: &[u64; 18]) -> Corrections {
-    Corrections {
-        sync: ScaledNs(octets::signed64(w[2])),
-        follow: ScaledNs(octets::signed64(w[3])),
-        resp: ScaledNs(octets::signed64(w[12])),
-    }
-}
-
-fn latencies_of(w: &[u64; 18]) -> Latencies {
-    Latencies {
-        mtx: ScaledPs(w[13]),
-        mrx: ScaledPs(w[14]),
-        stx: ScaledPs(w[15]),
-        srx: ScaledPs(w[16]),
-    }
-}
-
 // Delay and offset of an exchange in the order of the call `delay` (docs/VECTORS.md), signed numbers as their two's
 // complement.
 #[no_mangle]
 pub extern "C" fn dz_count_measure(w: &[u64; 18]) -> u64 {
-    let x = Exchange {
-        stamps: stamps_of(w),
-        corrections: corrections_of(w),
-        latencies: latencies_of(w),
-        asymmetry: Asymmetry(octets::signed64(w[17])),
-    };
-    match delay::measure(x) {
+    match delay::measure(face_links::exchanges::exchange_of(w)) {
         Measurement::Refused(r) => refusal::number(r) as u64,
         Measurement::Measured(d, o) => plus(
             plus(octets::bits64(d.0), octets::bits64(o.seconds)),

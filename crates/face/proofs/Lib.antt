@@ -1,2 +1,4 @@
 pub mod Widen
 pub mod RunLaws
+pub mod Determined
+pub mod Kept

@@ -12,6 +12,10 @@ use Rattle.links.proofs.set.Reads as set
 use Rattle.links.proofs.set.Kinds as set-kinds
 use Rattle.links.proofs.take.Reads as take
 use Rattle.links.proofs.take.Kinds as take-kinds
+use Rattle.links.proofs.bit.Reads as bit
+use Rattle.links.proofs.bit.Kinds as bit-kinds
+use Rattle.links.proofs.state_number.Reads as state-number
+use Rattle.links.proofs.state_number.Kinds as state-number-kinds
 
 module _ (κs : Lfts 1) (a : Dens κs set-kinds.ps) (x y : resT set-kinds.r κs .Denot) (e f : AtExit (endedOf 1 set-kinds.ps set-kinds.r) κs) where
   pub set-determined : set.Post κs a x e → set.Post κs a y f → (x ≡ y) × (now (e .0) ≡ now (f .0))
@@ -26,3 +30,11 @@ module _ (κs : Lfts 1) (a : Dens κs take-kinds.ps) (x y : resT take-kinds.r κ
   take-moves full known p =
       let q : now (e .0) ≡ takeWords (now (a .0)) (a .1 .0) (a .1 .1 .0) = p .1 in
       rw q (take-kept (now (a .0)) (a .1 .0) full known (a .1 .1 .0))
+
+module _ (κs : Lfts 0) (a : Dens κs bit-kinds.ps) (x y : resT bit-kinds.r κs .Denot) (e f : AtExit (endedOf 0 bit-kinds.ps bit-kinds.r) κs) where
+  pub bit-determined : bit.Post κs a x e → bit.Post κs a y f → x ≡ y
+  bit-determined p q = p ∙ sym q
+
+module _ (κs : Lfts 0) (a : Dens κs state-number-kinds.ps) (x y : resT state-number-kinds.r κs .Denot) (e f : AtExit (endedOf 0 state-number-kinds.ps state-number-kinds.r) κs) where
+  pub state-number-determined : state-number.Post κs a x e → state-number.Post κs a y f → x ≡ y
+  state-number-determined p q = p ∙ sym q
