@@ -42,7 +42,7 @@ static void show(const char *what, const uint64_t *c)
 
 int main(void)
 {
-    static const char *const decisions[] = {"", "M1", "M2", "M3", "P1", "P2", "S1", "S2"};
+    static const char *const decisions[] = {"", "M1", "M2", "M3", "S1", "S2", "P1", "P2"};
     uint8_t octets[128];
     uint64_t found[DZ_FOUND_WORDS], other[DZ_FOUND_WORDS], none[DZ_FOUND_WORDS] = {0}, status[2], decision[1];
     uint64_t run[DZ_CANDIDATE_WORDS], here[DZ_LIST_WORDS], there[DZ_LIST_WORDS], list[DZ_LIST_WORDS];
@@ -92,6 +92,14 @@ int main(void)
     printf(", port 3: %s", decisions[decision[0]]);
     dz_decide(own, list, 5, none, decision);
     printf(", port 5: %s\n", decisions[decision[0]]);
+
+    /* all eighteen ports in one call, and whom the clock follows */
+    uint8_t every[18];
+    printf("all ports: %u,", dz_decide_all(ports, 4 * second, own, every, list));
+    for (int p = 1; p <= 18; p++) printf(" %s", decisions[every[p - 1]]);
+    printf("\n");
+    dz_parent(own, list, found);
+    show("parent", found + 1);
 
     /* what was written is read back; cut in half, or of PTP version 1, it is refused */
     printf("read: %u", dz_read(octets, length, magic, message, tail));

@@ -3,15 +3,14 @@
    The ten lines that a host needs:
 
        uint64_t ports[DZ_PORTS_WORDS] = {0};                            // a fresh clock: eighteen ports that heard nothing
-       uint64_t best[18 * DZ_FOUND_WORDS], run[18 * DZ_CANDIDATE_WORDS], list[DZ_LIST_WORDS], decision[1];
-       size_t n = 0;
+       uint64_t list[DZ_LIST_WORDS], parent[DZ_FOUND_WORDS];
+       uint8_t decisions[18];
        dz_take(ports, port, now, octets, length, domain, clock, magic); // each Announce, as it arrives on a port
-       for (int p = 1; p <= 18; p++) {                                  // now and then: the best of each port ..
-           dz_best(ports, p, now, best + (p - 1) * DZ_FOUND_WORDS);
-           for (int i = 0; best[(p - 1) * DZ_FOUND_WORDS] && i < DZ_CANDIDATE_WORDS; i++) run[n++] = best[(p - 1) * DZ_FOUND_WORDS + 1 + i];
+       if (dz_decide_all(ports, now, own, decisions, list) == DZ_OK) {  // now and then: what every port is to do
+           dz_parent(own, list, parent);                                // whom the clock follows; the rest of the list are backups
+           for (int p = 1; p <= 18; p++) steer(p, decisions[p - 1]);    // DZ_M1 .. DZ_P2
+           if (parent[0]) follow(parent[1 + DZ_C_PORT]);                // the port to measure delay and offset on (dz_measure)
        }
-       dz_rank(run, n, list);                                           // .. the ranked list of all of them ..
-       dz_decide(own, list, port, best + (port - 1) * DZ_FOUND_WORDS, decision);  // .. and what each port does
 
    Every call returns 0, or the number of its refusal (enum dz_refusal); then nothing that was lent to it has changed. No call keeps
    a pointer, allocates, waits or reads a clock: the state is in words that the host lends, two calls on different state may run at

@@ -238,6 +238,36 @@ static void try_best(void)
     expect(!memcmp(words(FIRST) + 1, words(SECOND) + 1, DZ_CANDIDATE_WORDS * 8), "the best is not the first of the ranked list");
 }
 
+/* Every port's decision in one call is that of the pieces: each port's best, the ranked list of them, each port decided; and the
+   parent is on the port that is told S1. */
+static void try_deciding(void)
+{
+    uint64_t best[18][DZ_FOUND_WORDS], list[DZ_LIST_WORDS], decision[1];
+    size_t n = 0;
+    int followed = 0, late = 0;
+    for (int i = 0; i < DZ_OWN_WORDS; i++) words(IN)[i] = below(4) ? 128 : edge();
+    for (int p = 1; p <= 18; p++) {
+        late |= dz_best(words(PORTS), p, now, best[p - 1]) == DZ_BACKWARD;
+        if (!late && best[p - 1][0]) memcpy(words(MORE) + DZ_CANDIDATE_WORDS * n++, best[p - 1] + 1, DZ_CANDIDATE_WORDS * 8);
+    }
+    begin("dz_decide_all");
+    may[OUT] = 18, may[FIRST] = DZ_LIST_WORDS * 8;
+    unsigned code = end(dz_decide_all(words(PORTS), now, words(IN), octets(OUT), words(FIRST)), 1u | CAN(11));
+    expect((code == DZ_BACKWARD) == late, "11 without a late port, or a late port without 11");
+    if (code) return;
+    dz_rank(words(MORE), n * DZ_CANDIDATE_WORDS, list);
+    expect(!memcmp(list, words(FIRST), sizeof list), "the list is not the ranked list of the ports' bests");
+    begin("dz_parent");
+    may[SECOND] = DZ_FOUND_WORDS * 8;
+    end(dz_parent(words(IN), words(FIRST), words(SECOND)), 1u);
+    for (int p = 1; p <= 18; p++) {
+        dz_decide(words(IN), list, p, best[p - 1], decision);
+        expect(octets(OUT)[p - 1] == decision[0], "a port is decided otherwise alone");
+        if (decision[0] == DZ_S1) followed++, expect(words(SECOND)[1 + DZ_C_PORT] == (uint64_t)p, "the parent is on another port than S1");
+    }
+    expect(words(SECOND)[0] == (uint64_t)followed, "a parent without S1, or S1 without a parent");
+}
+
 static void try_reading(void)
 {
     size_t n = any_octets(IN), m = any_octets(MORE);
@@ -329,7 +359,7 @@ static void try_ranking(void)
     if (!below(10)) words(FIRST)[below(DZ_LIST_WORDS)] = edge();
     begin("dz_decide");
     may[OUT] = 8;
-    if (end(dz_decide(words(IN), words(FIRST), any_port(), words(SECOND), words(OUT)), 1u | CAN(8) | CAN(15)) == 0) expect(words(OUT)[0] >= DZ_M1 && words(OUT)[0] <= DZ_S2, "a decision that is none");
+    if (end(dz_decide(words(IN), words(FIRST), any_port(), words(SECOND), words(OUT)), 1u | CAN(8) | CAN(15)) == 0) expect(words(OUT)[0] >= DZ_M1 && words(OUT)[0] <= DZ_P2, "a decision that is none");
     if (!below(200)) {
         begin("dz_rank");
         may[FIRST] = DZ_LIST_WORDS * 8;
@@ -386,7 +416,7 @@ static void try_measuring(void)
 
 /* ---- all of them --------------------------------------------------------------------------------------------------------------- */
 
-static void (*const tries[])(void) = {try_records, try_records, try_records, try_best, try_reading, try_writing, try_ranking, try_comparing, try_links, try_measuring};
+static void (*const tries[])(void) = {try_records, try_records, try_records, try_best, try_deciding, try_reading, try_writing, try_ranking, try_comparing, try_links, try_measuring};
 
 int main(int count, char **arguments)
 {

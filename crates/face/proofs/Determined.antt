@@ -22,6 +22,8 @@ use Rattle.face.proofs.candidates.candidate_words.Reads as candidate-wo
 use Rattle.face.proofs.candidates.candidate_words.Kinds as candidate-words-kinds
 use Rattle.face.proofs.candidates.ranked_words.Reads as ranked-words
 use Rattle.face.proofs.candidates.ranked_words.Kinds as ranked-words-kinds
+use Rattle.face.proofs.answers.put_leader.Reads as put-leader
+use Rattle.face.proofs.answers.put_leader.Kinds as put-leader-kinds
 use Rattle.face.proofs.candidates.put_asked.Reads as put-asked
 use Rattle.face.proofs.candidates.put_asked.Kinds as put-asked-kinds
 use Rattle.face.proofs.answers.put_status.Reads as put-status
@@ -72,6 +74,10 @@ module _ (κs : Lfts 0) (a : Dens κs candidate-words-kinds.ps) (x y : resT cand
 module _ (κs : Lfts 0) (a : Dens κs ranked-words-kinds.ps) (x y : resT ranked-words-kinds.r κs .Denot) (e f : AtExit (endedOf 0 ranked-words-kinds.ps ranked-words-kinds.r) κs) where
   pub ranked-words-determined : ranked-words.Post κs a x e → ranked-words.Post κs a y f → x ≡ y
   ranked-words-determined p q = p ∙ sym q
+
+module _ (κs : Lfts 1) (a : Dens κs put-leader-kinds.ps) (x y : resT put-leader-kinds.r κs .Denot) (e f : AtExit (endedOf 1 put-leader-kinds.ps put-leader-kinds.r) κs) where
+  pub put-leader-determined : put-leader.Post κs a x e → put-leader.Post κs a y f → (x ≡ y) × (now (e .0) ≡ now (f .0))
+  put-leader-determined p q = (p .0 ∙ sym (q .0), p .1 ∙ sym (q .1))
 
 module _ (κs : Lfts 1) (a : Dens κs put-asked-kinds.ps) (x y : resT put-asked-kinds.r κs .Denot) (e f : AtExit (endedOf 1 put-asked-kinds.ps put-asked-kinds.r) κs) where
   pub put-asked-determined : put-asked.Post κs a x e → put-asked.Post κs a y f → (x ≡ y) × (now (e .0) ≡ now (f .0))
