@@ -62,7 +62,8 @@ enum dz_refusal {
 
 /* ---- Messages in words --------------------------------------------------------------------------------------------------------- */
 
-/* A message is twenty words: the header, then the body by type. Words that a type has no field for are 0. */
+/* A message is twenty words: the header, then the body by type. Words that a type has no field for are 0
+   when a call gives them, and not looked at when a call is given them. */
 enum dz_message {
     DZ_M_TYPE = 0,       /* enum dz_type */
     DZ_M_TRANSPORT = 1,  /* transportSpecific, 0 to 15 */
@@ -136,7 +137,7 @@ uint8_t dz_origin(const uint8_t *sync, size_t sync_length, const uint8_t *follow
 /* ---- Writing ------------------------------------------------------------------------------------------------------------------- */
 
 /* Writes a message and its tail to the front of `out`; written[0] is how many octets. Octets past them stay as they were.
-   Refuses 18 where a word does not fit its field or is not 0 where the type has none, a type is not listed, a timestamp is out of form, the
+   Refuses 18 where a word does not fit its field, a type is not listed, a timestamp is out of form, the
    tail would be refused when read, or the length would pass 65,535; then 16. */
 uint8_t dz_write(uint8_t *out, size_t room, const uint64_t message[DZ_MESSAGE_WORDS], const uint8_t *tail, size_t tail_length, uint16_t magic, uint64_t written[1]);
 

@@ -1,13 +1,14 @@
--- Words that a call gives are read back as what they were packed from: a candidate, and a ranked list, whose numbers fit their fields.
+-- Words that a call gives are read back as what they were packed from: a candidate, a ranked list, and a best, whose numbers fit their fields.
 use Prim.Native.Nat.{ℕ, _%_, _<_}
-use mathlib.Core.Path.{_≡_}
+use mathlib.Core.Path.{_≡_, ap}
 use mathlib.Core.List.{List, [], _∷_}
 use native.Mathlib.Omega.{arith}
 use Rattle.rank.specs.declared.Grandmaster.{Grandmaster}
 use Rattle.rank.specs.declared.PortIdentity.{PortIdentity}
 use Rattle.rank.specs.declared.Candidate.{Candidate}
 use Rattle.rank.specs.declared.Ranked.{Ranked}
-use Rattle.face.specs.Candidates.{candidateAt, candidateWords, rankedOf, rankedWords}
+use Rattle.decide.specs.declared.Erbest.the-variants.{Present}
+use Rattle.face.specs.Candidates.{candidateAt, candidateWords, rankedOf, rankedWords, foundWords, bestOf}
 
 -- a candidate as its types hold it
 pub record Fits (c : Candidate) : Type 0 where
@@ -53,3 +54,7 @@ pub list-kept : (n : ℕ) (a b c d : Candidate) → Fits a → Fits b → Fits c
     → let r : Ranked = record { len = n; slots = a ∷ b ∷ c ∷ d ∷ [] } in rankedOf (rankedWords r) ≡ r
 list-kept n a b c d p q r s =
     λ i. record { len = n; slots = candidate-kept a p i ∷ candidate-kept b q i ∷ candidate-kept c r i ∷ candidate-kept d s i ∷ [] }
+
+-- what asking gives is what deciding takes
+pub best-kept : (c : Candidate) → Fits c → bestOf (foundWords c) ≡ Present c
+best-kept c h = ap Present (candidate-kept c h)

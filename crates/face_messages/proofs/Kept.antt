@@ -20,8 +20,12 @@ use Rattle.message.specs.declared.fields.DelayResp.{DelayResp}
 use Rattle.message.specs.declared.fields.Body.{Body}
 use Rattle.message.specs.declared.fields.Body.the-variants as body
 use Rattle.message.specs.declared.fields.Message.{Message}
-use Rattle.layout.specs.Layout.{kindOf}
-use Rattle.face_messages.specs.Words.{bodyWords, messageWords, headerOf, announceOf, bodyOf, messageOf, isWhole}
+use Rattle.tlv.specs.declared.wr.LinkMessage.{LinkMessage}
+use Rattle.tlv.specs.declared.wr.LinkMessage.the-variants.{SlavePresent, Lock, Locked, Calibrate, Calibrated, ModeOn}
+use lib.ListN.{getD, take}
+use Rattle.face_messages.specs.Words.{bodyWords, messageWords, headerOf, announceOf, bodyOf, messageOf, wordsFor, isWhole}
+use Rattle.face_messages.specs.Answers.{linkMessageWords}
+use Rattle.face_messages.specs.Writing.{linkMessageOf, linkWordsFor, isLink}
 
 -- what the types of the fields say of their values
 pub record HeaderFits (h : Header) : Type 0 where
@@ -127,4 +131,28 @@ message-kept m h b = λ i. record { header = header-kept m h i; body = body-kept
 
 pub message-whole : (m : Message) → HeaderFits (m .header) → BodyFits (m .body) → isWhole (messageWords m) ≡ true
 message-whole m h b =
-    ap (λ (x : Message). same (messageWords x) (messageWords m)) (message-kept m h b) ∙ same-self (messageWords m)
+    let n = wordsFor (getD (messageWords m) 0 0) in
+    ap (λ (x : Message). same (take n (messageWords x)) (take n (messageWords m))) (message-kept m h b) ∙ same-self (take n (messageWords m))
+
+-- the same of a link message
+abbrev pub LinkFits : LinkMessage → Type 0
+LinkFits SlavePresent = Unit {0}
+LinkFits Lock = Unit {0}
+LinkFits Locked = Unit {0}
+LinkFits (Calibrate pattern retry period) = (pattern < 256) × (retry < 256) × (period < 0x100000000)
+LinkFits (Calibrated tx rx) = Unit {0}
+LinkFits ModeOn = Unit {0}
+
+pub link-kept : (m : LinkMessage) → LinkFits m → linkMessageOf (linkMessageWords m) ≡ m
+unfolding linkMessageOf
+link-kept SlavePresent f = refl
+link-kept Lock f = refl
+link-kept Locked f = refl
+link-kept (Calibrate pattern retry period) f = λ i. Calibrate (octet pattern (f .0) i) (octet retry (f .1) i) (four period (f .2) i)
+link-kept (Calibrated tx rx) f = refl
+link-kept ModeOn f = refl
+
+pub link-whole : (m : LinkMessage) → LinkFits m → isLink (linkMessageWords m) ≡ true
+link-whole m f =
+    let n = linkWordsFor (getD (linkMessageWords m) 0 0) in
+    ap (λ (x : LinkMessage). same (take n (linkMessageWords x)) (take n (linkMessageWords m))) (link-kept m f) ∙ same-self (take n (linkMessageWords m))

@@ -4,7 +4,7 @@ use Prim.Native.Nat.{ℕ, _+_, _%_}
 use mathlib.Core.Bool.{Bool}
 use mathlib.Core.List.{List, [], _∷_, _++_}
 use lib.Dec.{eqb}
-use lib.ListN.{getD}
+use lib.ListN.{getD, take}
 use mir.Syntax.{w8, w16, w64}
 use mir.Val.{toZ, ofZ}
 use Rattle.refusal.specs.Choice.{pick}
@@ -112,7 +112,11 @@ bodyOf w =
 abbrev pub messageOf : List ℕ → Message
 messageOf w = record { header = headerOf w; body = bodyOf w }
 
+-- how many words a message of a type has fields for; "Fields the type doesn't have" are not looked at
+unfoldable pub wordsFor : ℕ → ℕ
+wordsFor kind = pick (eqb kind 0x9) 13 (pick (eqb kind 0xB) 20 11)
+
 -- "a value to write doesn't fit its field": the words are not those of the message that is read out of them; a type that is
 -- not listed is not Signaling's either
 abbrev pub isWhole : List ℕ → Bool
-isWhole w = same (messageWords (messageOf w)) w
+isWhole w = same (take (wordsFor (getD w 0 0)) (messageWords (messageOf w))) (take (wordsFor (getD w 0 0)) w)

@@ -3,7 +3,7 @@ use Prim.Native.Nat.{ℕ, _%_}
 use mathlib.Core.Bool.{Bool}
 use mathlib.Core.List.{List, [], _∷_}
 use lib.Dec.{eqb}
-use lib.ListN.{getD}
+use lib.ListN.{getD, take}
 use Rattle.refusal.specs.Choice.{pick}
 use Rattle.refusal.specs.Refusal.{numberOf}
 use Rattle.rank.specs.Order.{same}
@@ -23,9 +23,13 @@ linkMessageOf w =
     (pick (eqb (getD w 0 0) 0x1004) (Calibrated (getD w 4 0) (getD w 5 0))
     ModeOn))))
 
+-- how many words have to be looked at: the number, and what a CALIBRATE carries
+unfoldable pub linkWordsFor : ℕ → ℕ
+linkWordsFor number = pick (eqb number 0x1003) 4 1
+
 -- "a value to write doesn't fit its field": the words are not those of the message that is read out of them
 abbrev pub isLink : List ℕ → Bool
-isLink w = same (linkMessageWords (linkMessageOf w)) w
+isLink w = same (take (linkWordsFor (getD w 0 0)) (linkMessageWords (linkMessageOf w))) (take (linkWordsFor (getD w 0 0)) w)
 
 -- how many octets were written
 abbrev pub writtenCode : Written → ℕ

@@ -1,13 +1,13 @@
 // Messages in twenty words, in the order of docs/VECTORS.md: nine for the header, type first, and eleven for the body; those
 // that a type has no field for are zero. Into words, and out of them.
 //
-// A word that its field cannot hold, and a word that is not zero where the type has no field, is not the message's: `is_whole` tells,
-// and writing refuses it with 18.
+// A word that its field cannot hold is not the message's: `is_whole` tells, and writing refuses it with 18. Words that the type
+// has no field for are not looked at.
 ghost use mathlib.Core.Path.{_≡_};
 ghost use Prim.Native.Nat.{_+_, _≤_};
 ghost use lib.ListN.{length};
 ghost use Rattle.rank.specs.Order.{same};
-ghost use Rattle.face_messages.specs.Words.{pairWords, announceWords, respWords, bodyWords, messageWords, stampOf, identityAt, headerOf, announceOf, bodyOf, messageOf, isWhole};
+ghost use Rattle.face_messages.specs.Words.{pairWords, announceWords, respWords, bodyWords, messageWords, stampOf, identityAt, headerOf, announceOf, bodyOf, messageOf, wordsFor, isWhole};
 use message::fields::Announce;
 use message::fields::Body;
 use message::fields::DelayResp;
@@ -214,10 +214,23 @@ pub fn are_same(a: &[u64], b: &[u64]) -> bool
     true
 }
 
+// How many words a message of a type has fields for. The words past them are not looked at.
+fn words_for(kind: u64) -> usize
+    ensures { λ r. ⌜ (r ≡ wordsFor kind) × (r ≤ 20) ⌝ }
+{
+    match kind {
+        0x9 => 13,
+        0xB => 20,
+        _ => 11,
+    }
+}
+
 // Whether words are those of the message that is read out of them, each number within its field.
 pub fn is_whole(w: &[u64; 20]) -> bool
     ensures { λ r. ⌜ r ≡ isWhole (now (w .entry)) ⌝ }
 {
+    let all = &w[..];
+    let n = words_for(w[0]);
     let own = message_words(message_of(w));
-    are_same(&own, w)
+    are_same(&own[0..n], &all[0..n])
 }

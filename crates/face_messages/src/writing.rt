@@ -1,6 +1,7 @@
 // What writing is handed in words, and what it answers.
 ghost use mathlib.Core.Path.{_≡_};
-ghost use Rattle.face_messages.specs.Writing.{linkMessageOf, isLink, writtenCode, writtenWords};
+ghost use Prim.Native.Nat.{_≤_};
+ghost use Rattle.face_messages.specs.Writing.{linkMessageOf, linkWordsFor, isLink, writtenCode, writtenWords};
 use tlv::wr::LinkMessage;
 use writer::writing::Written;
 
@@ -23,12 +24,21 @@ pub fn link_message_of(w: &[u64; 6]) -> LinkMessage
     }
 }
 
+// How many of the words have to be looked at: the number, and what a CALIBRATE carries; any deltaTx and deltaRx fit.
+fn words_for(number: u64) -> usize
+    ensures { λ r. ⌜ (r ≡ linkWordsFor number) × (r ≤ 6) ⌝ }
+{
+    if number == 0x1003 { 4 } else { 1 }
+}
+
 // Whether words are those of the link message that is read out of them, each number within its field.
 pub fn is_link(w: &[u64; 6]) -> bool
     ensures { λ r. ⌜ r ≡ isLink (now (w .entry)) ⌝ }
 {
+    let all = &w[..];
+    let n = words_for(w[0]);
     let own = crate::answers::link_message_words(link_message_of(w));
-    crate::are_same(&own, w)
+    crate::are_same(&own[0..n], &all[0..n])
 }
 
 // How many octets the message has that was written.
