@@ -1,10 +1,8 @@
 -- Words that a call gives are read back as what they were packed from: a candidate, a ranked list, and a best, whose numbers fit their fields.
 use Prim.Native.Nat.{ℕ, _%_, _<_}
 use mathlib.Core.Path.{_≡_, ap}
-use mathlib.Core.List.{List, [], _∷_}
+use mathlib.Core.List.{[], _∷_}
 use native.Mathlib.Omega.{arith}
-use Rattle.rank.specs.declared.Grandmaster.{Grandmaster}
-use Rattle.rank.specs.declared.PortIdentity.{PortIdentity}
 use Rattle.rank.specs.declared.Candidate.{Candidate}
 use Rattle.rank.specs.declared.Ranked.{Ranked}
 use Rattle.decide.specs.declared.Erbest.the-variants.{Present}

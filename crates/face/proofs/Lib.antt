@@ -1,3 +1,4 @@
+pub mod Spread
 pub mod Widen
 pub mod RunLaws
 pub mod Determined

@@ -1,7 +1,6 @@
 -- Ranking a run one candidate at a time gives what ranking it whole is defined to give.
 use Prim.Native.Nat.{ℕ, zero, suc, _+_, _-_, _*_, _<_}
 use mathlib.Core.Path.{_≡_, refl, sym, ap, _∙_}
-use mathlib.Core.Bool.{Bool, true, false}
 use mathlib.Core.List.{List, [], _∷_}
 use native.Mathlib.Omega.{arith}
 use lib.Dec.{ltb}
@@ -10,12 +9,11 @@ use lib.Seq.{take-length}
 use Rattle.refusal.specs.Choice.{refuse}
 use Rattle.refusal.specs.declared.Refusal.{Refusal}
 use Rattle.rank.specs.declared.Candidate.{Candidate}
-use Rattle.rank.specs.declared.Ranking.{Ranking}
 use Rattle.rank.specs.Calls.{refusedOf, rankingOf, startOf, turnsOf}
 use Rattle.rank.proofs.Best.{cases}
 use Rattle.rank.proofs.Runs.{scan, scan-all}
 use Rattle.face.specs.Candidates.{candidateAt}
-use Rattle.face.specs.Runs.{runFrom, runOf}
+use Rattle.face.specs.Runs.{runFrom}
 
 stuck : (x : Refusal) (l : List Candidate) → scan (refusedOf x) l ≡ refusedOf x
 stuck x [] = refl

@@ -1,19 +1,16 @@
 -- The words of a message that was read are whole: reading it out of them gives the message again, so that writing never refuses them for a
 -- number that does not fit its field.
-use Prim.Native.Nat.{ℕ, suc, _+_, _-_, _^_, _%_, _<_}
+use Prim.Native.Nat.{ℕ, _%_, _<_}
 use mathlib.Core.Path.{_≡_, refl, _∙_, ap}
-use mathlib.Core.Bool.{Bool, true, _&&_}
+use mathlib.Core.Bool.{true}
 use mathlib.Core.List.{List, [], _∷_}
 use native.Mathlib.Omega.{arith}
 use lib.IntN.{ℤ, pos, negsuc}
-use lib.Dec.{eqb}
 use mir.Syntax.{w8, w16, w64}
 use mir.Val.{ofZ, toZ, SFits}
 use mir.ValLaws.{toZ-ofZ}
 use borrow.Author.Tests.{eq-eqb}
 use Rattle.rank.specs.Order.{same}
-use Rattle.message.specs.declared.fields.PortIdentity.{PortIdentity}
-use Rattle.message.specs.declared.fields.Timestamp.{Timestamp}
 use Rattle.message.specs.declared.fields.Header.{Header}
 use Rattle.message.specs.declared.fields.Announce.{Announce}
 use Rattle.message.specs.declared.fields.DelayResp.{DelayResp}

@@ -1,9 +1,8 @@
 -- Words that are put together one by one are the words; two runs of words are compared from the front.
 use mathlib.Core.Path.{_≡_, refl, sym, _∙_, ap}
 use mathlib.Core.Bool.{Bool, true, false, _&&_}
-use mathlib.Core.List.{List, [], _∷_}
-use Prim.Native.Nat.{ℕ, suc, _+_, _≤_, _<_}
-use native.Mathlib.Omega.{arith}
+use mathlib.Core.List.{List}
+use Prim.Native.Nat.{ℕ, _+_, _≤_, _<_}
 use native.Mathlib.Numerals.{add-one}
 use lib.Dec.{eqb}
 use lib.ListN.{length, getD, drop, drop-of-length-le}
@@ -14,29 +13,11 @@ use Rattle.tlv.specs.declared.wr.LinkMessage.{LinkMessage}
 use Rattle.tlv.specs.declared.wr.LinkMessage.the-variants.{SlavePresent, Lock, Locked, Calibrate, Calibrated, ModeOn}
 use Rattle.message.specs.declared.fields.Body.{Body}
 use Rattle.message.specs.declared.fields.Body.the-variants as body
+use Rattle.face.proofs.Spread.{spread}
 use Rattle.face_messages.specs.Words.{bodyWords}
 use Rattle.face_messages.specs.Answers.{linkMessageWords}
 
--- the elements of a list one by one
-abbrev pub six : List ℕ → List ℕ
-six w = getD w 0 0 ∷ getD w 1 0 ∷ getD w 2 0 ∷ getD w 3 0 ∷ getD w 4 0 ∷ getD w 5 0 ∷ []
-
-abbrev pub eleven : List ℕ → List ℕ
-eleven w =
-    getD w 0 0
-    ∷ getD w 1 0
-    ∷ getD w 2 0
-    ∷ getD w 3 0
-    ∷ getD w 4 0
-    ∷ getD w 5 0
-    ∷ getD w 6 0
-    ∷ getD w 7 0
-    ∷ getD w 8 0
-    ∷ getD w 9 0
-    ∷ getD w 10 0
-    ∷ []
-
-pub link-six : (m : LinkMessage) → six (linkMessageWords m) ≡ linkMessageWords m
+pub link-six : (m : LinkMessage) → spread 6 0 (linkMessageWords m) ≡ linkMessageWords m
 link-six SlavePresent = refl
 link-six Lock = refl
 link-six Locked = refl
@@ -44,7 +25,7 @@ link-six (Calibrate pattern retry period) = refl
 link-six (Calibrated tx rx) = refl
 link-six ModeOn = refl
 
-pub body-eleven : (b : Body) → eleven (bodyWords b) ≡ bodyWords b
+pub body-eleven : (b : Body) → spread 11 0 (bodyWords b) ≡ bodyWords b
 unfolding bodyWords
 body-eleven (body.Sync t) = refl
 body-eleven (body.DelayReq t) = refl

@@ -2,7 +2,7 @@
 -- type, and zeros. A number that is read is taken modulo the width of its field; signed ones are two's complement in 64 bits.
 use Prim.Native.Nat.{ℕ, _+_, _%_}
 use mathlib.Core.Bool.{Bool}
-use mathlib.Core.List.{List, [], _∷_, _++_}
+use mathlib.Core.List.{List, [], _∷_}
 use lib.Dec.{eqb}
 use lib.ListN.{getD, take}
 use mir.Syntax.{w8, w16, w64}

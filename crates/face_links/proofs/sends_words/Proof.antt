@@ -2,7 +2,8 @@
 use mathlib.Core.Path.{_∙_, ap}
 use Prim.Native.Nat.{ℕ}
 use mathlib.Core.List.{List, _∷_, _++_}
-use Rattle.face_messages.proofs.Laws.{six, link-six}
+use Rattle.face.proofs.Spread.{spread}
+use Rattle.face_messages.proofs.Laws.{link-six}
 use Rattle.face_links.specs.Steps.{noWords, sendsWords}
 use borrow.Author.Needs.{needs}
 use Rattle.face_links.proofs.sends_words.Statement.{statement}
@@ -88,7 +89,7 @@ returns-2 : tie.Need-returns-2
 unfolding sendsWords
 returns-2 c =
     let m = c .before .before .s .given in
-    rw (m .1) (ap (λ (l : List ℕ). 1 ∷ (six l ++ noWords)) (c .link-message-words .ensures) ∙ ap (λ (l : List ℕ). 1 ∷ (l ++ noWords)) (link-six (m .0 .0)))
+    rw (m .1) (ap (λ (l : List ℕ). 1 ∷ (spread 6 0 l ++ noWords)) (c .link-message-words .ensures) ∙ ap (λ (l : List ℕ). 1 ∷ (l ++ noWords)) (link-six (m .0 .0)))
 
 returns-3 : tie.Need-returns-3
 unfolding sendsWords
@@ -96,7 +97,7 @@ returns-3 c =
     let a = c .before in
     let m = a .before .before .s2 .given in
     rw (m .1)
-    ((λ i. 2 ∷ (six (a .link-message-words2 .ensures i) ++ six (c .link-message-words3 .ensures i))) ∙ (λ i. 2 ∷ (link-six (m .0 .0) i ++ link-six (m .0 .1 .0) i)))
+    ((λ i. 2 ∷ (spread 6 0 (a .link-message-words2 .ensures i) ++ spread 6 0 (c .link-message-words3 .ensures i))) ∙ (λ i. 2 ∷ (link-six (m .0 .0) i ++ link-six (m .0 .1 .0) i)))
 
 pub sends-words-spec : {M : Type 1} → statement M
 sends-words-spec =

@@ -2,7 +2,8 @@
 use mathlib.Core.Path.{_∙_, ap}
 use mathlib.Core.List.{_∷_}
 use Rattle.face_links.specs.Steps.{stepWords}
-use Rattle.face_links.proofs.Laws.{thirteen, sends-thirteen}
+use Rattle.face.proofs.Spread.{spread}
+use Rattle.face_links.proofs.Laws.{sends-thirteen}
 use borrow.Author.Needs.{needs}
 use Rattle.face_links.proofs.step_words.Statement.{statement}
 use Rattle.face_links.proofs.step_words.Tie as tie
@@ -69,7 +70,7 @@ returns c =
     let o = r .before in
     let n = o .before in
     let s = n .before .before .args .s in
-    let z = ap thirteen (m .sends-words .ensures) ∙ sends-thirteen (s .sends) in
+    let z = ap (spread 13 0) (m .sends-words .ensures) ∙ sends-thirteen (s .sends) in
     λ i. n .state-number .ensures i ∷ o .bit .ensures i ∷ s .link .retries ∷ r .bit2 .ensures i ∷ z i
 
 pub step-words-spec : {M : Type 1} → statement M

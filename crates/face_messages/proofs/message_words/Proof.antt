@@ -1,7 +1,8 @@
 -- `message_words` meets its contract: the header field by field, then the words of the body.
 use mathlib.Core.Path.{_∙_, ap}
 use mathlib.Core.List.{_∷_}
-use Rattle.face_messages.proofs.Laws.{eleven, body-eleven}
+use Rattle.face.proofs.Spread.{spread}
+use Rattle.face_messages.proofs.Laws.{body-eleven}
 use mir.Syntax.{w8, w64}
 use mir.Val.{ofZ, SFits}
 use mir.ValLaws.{toZ-ofZ}
@@ -91,7 +92,7 @@ returns c =
     let h = m .header in
     let x = k .bits64 .ensures ∙ ap (ofZ w64) (toZ-ofZ w64 (h .correction) (correction-fits s)) in
     let y = n .word-of-i8 .ensures ∙ ap (ofZ w64) (toZ-ofZ w8 (h .interval) (interval-fits s)) in
-    let z = ap eleven (b .body-words .ensures) ∙ body-eleven (m .body) in
+    let z = ap (spread 11 0) (b .body-words .ensures) ∙ body-eleven (m .body) in
     λ i.
     d .kind-of .ensures i
     ∷ h .transport

@@ -1,8 +1,6 @@
 -- `dz_write_suffix` meets its contract: the first fourteen octets of the TLV.
 use mathlib.Core.Path.{refl}
-use Prim.Native.Nat.{ℕ}
-use mathlib.Core.List.{List, [], _∷_}
-use lib.ListN.{getD}
+use Rattle.face.proofs.Spread.{spread}
 use Rattle.wrwriter.specs.Built.{wrOctets}
 use borrow.Author.Needs.{needs}
 use Rattle.clock.proofs.writing.dz_write_suffix.Statement.{statement}
@@ -53,13 +51,10 @@ array-read-t44 c = search needs
 array-read-t47 : tie.Need-array-read-t47
 array-read-t47 c = search needs
 
-abbrev fourteen : List ℕ → List ℕ
-fourteen o = getD o 0 0 ∷ getD o 1 0 ∷ getD o 2 0 ∷ getD o 3 0 ∷ getD o 4 0 ∷ getD o 5 0 ∷ getD o 6 0 ∷ getD o 7 0 ∷ getD o 8 0 ∷ getD o 9 0 ∷ getD o 10 0 ∷ getD o 11 0 ∷ getD o 12 0 ∷ getD o 13 0 ∷ []
-
 returns : tie.Need-returns
 unfolding wrOctets
 returns c =
-    (refl, λ i. fourteen (c .before .before .suffix .ensures i .octets))
+    (refl, λ i. spread 14 0 (c .before .before .suffix .ensures i .octets))
 
 pub dz-write-suffix-spec : {M : Type 1} → statement M
 dz-write-suffix-spec =

@@ -1,7 +1,6 @@
 -- `ranked_words` meets its contract: the count, then the words of each slot.
-use Prim.Native.Nat.{ℕ}
-use mathlib.Core.List.{List, [], _∷_}
-use lib.ListN.{getD}
+use mathlib.Core.List.{_∷_, _++_}
+use Rattle.face.proofs.Spread.{spread}
 use borrow.Author.Needs.{needs}
 use Rattle.face.proofs.candidates.ranked_words.Statement.{statement}
 use Rattle.face.proofs.candidates.ranked_words.Tie as tie
@@ -162,29 +161,18 @@ array-read-t146 c = search needs
 array-read-t149 : tie.Need-array-read-t149
 array-read-t149 c = search needs
 
--- the eleven elements of a list, one by one, before others
-abbrev eleven : List ℕ → List ℕ → List ℕ
-eleven w rest =
-    getD w 0 0
-    ∷ getD w 1 0
-    ∷ getD w 2 0
-    ∷ getD w 3 0
-    ∷ getD w 4 0
-    ∷ getD w 5 0
-    ∷ getD w 6 0
-    ∷ getD w 7 0
-    ∷ getD w 8 0
-    ∷ getD w 9 0
-    ∷ getD w 10 0
-    ∷ rest
-
 returns : tie.Need-returns
 returns c =
     let e = c .before .before in
     let f = e .before .before in
     let g = f .before .before in
     let r = g .before .before .before .args .r in
-    λ i. r .len ∷ eleven (g .candidate-words .ensures i) (eleven (f .candidate-words2 .ensures i) (eleven (e .candidate-words3 .ensures i) (eleven (c .candidate-words4 .ensures i) [])))
+    λ i.
+    r .len
+    ∷ (spread 11 0 (g .candidate-words .ensures i)
+    ++ (spread 11 0 (f .candidate-words2 .ensures i)
+    ++ (spread 11 0 (e .candidate-words3 .ensures i)
+    ++ spread 11 0 (c .candidate-words4 .ensures i))))
 
 pub ranked-words-spec : {M : Type 1} → statement M
 ranked-words-spec =

@@ -2,7 +2,8 @@
 use mathlib.Core.Path.{refl, _∙_, ap}
 use Prim.Native.Nat.{ℕ}
 use mathlib.Core.List.{List, _∷_}
-use Rattle.face_messages.proofs.Laws.{six, link-six}
+use Rattle.face.proofs.Spread.{spread}
+use Rattle.face_messages.proofs.Laws.{link-six}
 use borrow.Author.Needs.{needs}
 use Rattle.face_messages.proofs.answers.put_link.Statement.{statement}
 use Rattle.face_messages.proofs.answers.put_link.Tie as tie
@@ -49,7 +50,7 @@ returns-2 c = search needs
 returns-3 : tie.Need-returns-3
 returns-3 c =
     let w = c .before in
-    rw (w .before .before .x2 .given .1) (refl, ap (λ (l : List ℕ). 1 ∷ six l) (w .link-message-words .ensures) ∙ ap (λ (l : List ℕ). 1 ∷ l) (link-six (w .before .before .x2 .given .0 .0)))
+    rw (w .before .before .x2 .given .1) (refl, ap (λ (l : List ℕ). 1 ∷ spread 6 0 l) (w .link-message-words .ensures) ∙ ap (λ (l : List ℕ). 1 ∷ l) (link-six (w .before .before .x2 .given .0 .0)))
 
 pub put-link-spec : {M : Type 1} → statement M
 put-link-spec =
