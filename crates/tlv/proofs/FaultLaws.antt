@@ -61,9 +61,9 @@ pub misfit-by : (magic : ℕ) (t : List ℕ) (p : ℕ) {x : Numbered} {l : ℕ} 
 unfolding misfitAt
 misfit-by magic t p ex el eb = rw (← ex, ← el) eb
 
-pub faulty-either : (b : Bool) → pick b Faulty Faulty ≡ Faulty
-faulty-either true = refl
-faulty-either false = refl
+pub either : {A : Type 0} (b : Bool) (x : A) → pick b x x ≡ x
+either true x = refl
+either false x = refl
 
 no-place : {p : ℕ} → Faulty ≡ SuffixAt p → ⊥
 no-place e = let z : _≡_ {A = ℕ} 0 1 = cc in omega arith

@@ -129,7 +129,8 @@ pub fn first_fault(t: &[u8], magic: u16) -> Fault
     Fault::Sound
 }
 
-// The walk of a reader that hopes for a sound tail: it ends at the first thing that is wrong, and does not say what.
+// The walk of a reader that hopes for a sound tail: it ends at the first thing that is wrong, and does not say what. That
+// a TLV is a suffix is settled before `later` is asked: the compiler then looks at the number once, for this and the size.
 pub fn sound_suffix(t: &[u8], magic: u16) -> Sound
     ensures { λ r. ⌜ r ≡ soundOf magic (now (t .entry)) ⌝ }
 {
@@ -144,7 +145,9 @@ pub fn sound_suffix(t: &[u8], magic: u16) -> Sound
         if form::misfits(x, l) {
             return Sound::Faulty;
         }
-        suffix = later(t.len(), suffix, at, form::is_suffix(x));
+        if form::is_suffix(x) {
+            suffix = later(t.len(), suffix, at, true);
+        }
         at = p;
     }
     Sound::SuffixAt(suffix)

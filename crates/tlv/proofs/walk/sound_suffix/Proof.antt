@@ -1,19 +1,20 @@
 -- `walk::sound_suffix` meets its contract: along the walk neither the first break nor the first misfit nor the first
 -- suffix changes.
-use Prim.Native.Nat.{_-_, _≤_}
+use Prim.Native.Nat.{ℕ, _-_, _≤_}
 use mathlib.Core.Path.{_≡_, refl, sym, ap, _∙_}
 use native.Mathlib.Omega.{arith}
 use borrow.Author.Needs.{needs}
 use borrow.Author.Tests.{le-ltb, eq-eqb}
+use lib.Dec.{ltb}
 use lib.ListN.{length}
 use Rattle.refusal.specs.Choice.{pick}
 use Rattle.tlv.specs.Walk.{nextOf, broken, first}
 use Rattle.tlv.specs.Form.{misfitAt, isSuffix, suffixAt}
-use Rattle.tlv.specs.Faults.{whole, misfit, soundOf}
+use Rattle.tlv.specs.Faults.{whole, misfit, laterOf, soundOf}
 use Rattle.tlv.specs.declared.walk.Next.the-variants.{At}
-use Rattle.tlv.specs.declared.walk.Sound.the-variants.{SuffixAt}
+use Rattle.tlv.specs.declared.walk.Sound.the-variants.{SuffixAt, Faulty}
 use Rattle.tlv.proofs.WalkLaws.{next-fits, next-whole, next-size, walk-end, walk-bad, walk-more}
-use Rattle.tlv.proofs.FaultLaws.{firstSoFar, carried, later-inside, settled, misfit-by, faulty-either, lt-eqb}
+use Rattle.tlv.proofs.FaultLaws.{firstSoFar, carried, later-inside, settled, misfit-by, either, lt-eqb}
 use Rattle.tlv.proofs.walk.sound_suffix.Statement.{statement}
 use Rattle.tlv.proofs.walk.sound_suffix.Tie as tie
 
@@ -43,6 +44,28 @@ turn c =
     let k = c .before .before in
     let i = k .before .before .before .before in
     rw (tested c) (sym (walk-more _ _ _ _ _ _ (i .loop-test .taken) (stepped k)) ∙ i .before .loop .inv .2)
+
+-- what holds after a turn, where what was found so far has become what the turn's TLV makes of it
+turned : (c : tie.After-is-suffix Inv-loop μ-loop) {soFar : ℕ} → let k = c .before .before .before .before in let l = k .before .before .before .before .before in
+    let a = l .before .before .args in
+    soFar ≡ laterOf (length (a .t .now)) (l .loop .suffix) (l .loop .at) (c .is-suffix .result)
+    → Inv-loop (a .t .now) (a .magic) 0 0 soFar (k .before .p .given .0 .0)
+unfolding suffixAt
+turned c e =
+    let e1 = c .before in
+    let m = e1 .before in
+    let x = m .before in
+    let k = x .before in
+    let i = k .before .before .before .before in
+    let l = i .before in
+    let a = l .before .before .args in
+    let s = c .is-suffix .ensures ∙ ap isSuffix (x .number-at .ensures) in (
+      next-fits _ _ (stepped k) .1,
+      sym (walk-more _ _ _ _ _ _ (i .loop-test .taken) (stepped k)) ∙ l .loop .inv .1,
+      rw (e1 .if1 .left) at (turn m),
+      rw e (later-inside (length (a .t .now)) (l .loop .suffix) (l .loop .at) (c .is-suffix .result) (l .loop .inv .3) (i .loop-test .taken)),
+      rw (e, s) (carried (suffixAt (a .magic) (a .t .now)) (a .t .now) (l .loop .at) _ (l .loop .suffix) (i .loop-test .taken) (stepped k)) ∙ l .loop .inv .4,
+    )
 
 loop-holds : tie.Need-loop-holds Inv-loop μ-loop
 loop-holds c =
@@ -85,7 +108,7 @@ unfolding soundOf
 returns-2 c =
     let m = c .before in
     let i = m .before .before .before .before .before .before in
-    rw (← turn m, c .if1 .taken, lt-eqb _ _ (i .loop-test .taken)) (sym (faulty-either (whole (i .before .before .before .args .t .now))))
+    rw (← turn m, c .if1 .taken, lt-eqb _ _ (i .loop-test .taken)) (sym (either (whole (i .before .before .before .args .t .now)) Faulty))
 
 is-suffix-requires : tie.Need-is-suffix-requires Inv-loop μ-loop
 is-suffix-requires c κs = search needs
@@ -94,26 +117,18 @@ later-requires : tie.Need-later-requires Inv-loop μ-loop
 later-requires c κs = search needs
 
 loop-less : tie.Need-loop-less Inv-loop μ-loop
-loop-less c = let n = next-fits _ _ (stepped (c .before .before .before .before .before)) in omega arith
+loop-less c = let n = next-fits _ _ (stepped (c .before .before .before .before .before .before)) in omega arith
 
 loop-again : tie.Need-loop-again Inv-loop μ-loop
-unfolding suffixAt
-loop-again c =
-    let f = c .before in
-    let e1 = f .before in
-    let m = e1 .before in
-    let x = m .before in
-    let k = x .before in
-    let i = k .before .before .before .before in
-    let l = i .before in
-    let a = l .before .before .args in
-    let s = f .is-suffix .ensures ∙ ap isSuffix (x .number-at .ensures) in (
-      next-fits _ _ (stepped k) .1,
-      sym (walk-more _ _ _ _ _ _ (i .loop-test .taken) (stepped k)) ∙ l .loop .inv .1,
-      rw (e1 .if1 .left) at (turn m),
-      rw (c .later .ensures) (later-inside (length (a .t .now)) (l .loop .suffix) (l .loop .at) (f .is-suffix .result) (l .loop .inv .3) (i .loop-test .taken)),
-      rw (c .later .ensures, s) (carried (suffixAt (a .magic) (a .t .now)) (a .t .now) (l .loop .at) _ (l .loop .suffix) (i .loop-test .taken) (stepped k)) ∙ l .loop .inv .4,
-    )
+loop-again c = turned (c .before .before) (rw (c .before .if2 .taken) (c .later .ensures))
+
+loop-less-2 : tie.Need-loop-less-2 Inv-loop μ-loop
+loop-less-2 c = let n = next-fits _ _ (stepped (c .before .before .before .before .before)) in omega arith
+
+loop-again-2 : tie.Need-loop-again-2 Inv-loop μ-loop
+loop-again-2 c =
+    let l = c .before .before .before .before .before .before .before .before .before .before in
+    turned (c .before) (rw (c .if2 .left) (sym (either (ltb (l .loop .suffix) (length (l .before .before .args .t .now))) (l .loop .suffix))))
 
 returns-3 : tie.Need-returns-3 Inv-loop μ-loop
 unfolding soundOf
@@ -148,4 +163,6 @@ sound-suffix-spec =
     later-requires
     loop-less
     loop-again
+    loop-less-2
+    loop-again-2
     returns-3)
