@@ -1,6 +1,7 @@
 pub mod Best
 pub mod Order
 pub mod Sinking
+pub mod Tidying
 pub mod Merging
 pub mod Runs
 pub mod Laws

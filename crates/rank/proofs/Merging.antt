@@ -162,10 +162,9 @@ all-append P (x ∷ xs) t h k = (h .0, all-append P xs t (h .1) k)
 
 -- what `merge` makes of two lists that pass
 pub merged : (a b : Ranked) → isRanked a ≡ true → isRanked b ≡ true
-    → insertAll (insertAll (pack []) (unpack a)) (unpack b) ≡ pack (rankOf (unpack a ++ unpack b))
+    → insertAll (pack (unpack a)) (unpack b) ≡ pack (rankOf (unpack a ++ unpack b))
 merged a b ha hb =
-    ap (λ (r : Ranked). insertAll r (unpack b))
-    (insert-all-rank (unpack a) [] ∙ ap (λ (l : List Candidate). pack (R l)) (append-nil (unpack a)))
+    ap (λ (l : List Candidate). insertAll (pack l) (unpack b)) (sym (ranked-self a ha) ∙ sym (defined (unpack a) (ranked-valid a ha)))
     ∙ insert-all-rank (unpack b) (unpack a)
     ∙ ap pack (rank-swap earlierOf portOf ordered 4 (unpack b) (unpack a))
     ∙ ap pack (defined (unpack a ++ unpack b) (all-append _ (unpack a) (unpack b) (ranked-valid a ha) (ranked-valid b hb)))

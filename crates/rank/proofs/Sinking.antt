@@ -125,7 +125,7 @@ module _ (p n : ℕ) (whole first slots : List Candidate) (x : Candidate) (i : �
         (set-split slots n x (omega (arith, inv .size)) ∙ rw past1 (sym (append-snoc (take n slots) x (drop (n + 1) first))) ∙ ap (λ (l : List Candidate). l ++ drop (n + 1) first) ended)
 
 -- a length past the slots
-take-min : (k : ℕ) (l : List Candidate) → length l ≡ 4 → take (min k 4) l ≡ take k l
+pub take-min : (k : ℕ) (l : List Candidate) → length l ≡ 4 → take (min k 4) l ≡ take k l
 take-min k l e =
     cases (leb k 4)
     (λ t. let h = leb-true k 4 t in let m : min k 4 ≡ k = omega arith in rw m)

@@ -7,10 +7,9 @@
 // Which candidates a port has is left to the sender records, and what a port does about them to the decision.
 ghost use mathlib.Core.Path.{_≡_};
 ghost use mathlib.Core.List.{[]};
-ghost use Prim.Native.Nat.{_<_, min};
-ghost use lib.ListN.{drop};
+ghost use Prim.Native.Nat.{min};
 ghost use Rattle.rank.specs.Order.{identityOf, gradeOf, lex, same, earlierOf};
-ghost use Rattle.rank.specs.Ranked.{isPort, blankOf, pack, unpack, leftOut, sinkOf, insertOf, insertAll, holdsOf, standsOf, isRanked};
+ghost use Rattle.rank.specs.Ranked.{isPort, blankOf, pack, unpack, leftOut, sinkOf, insertOf, insertAll, holdsOf, isRanked};
 ghost use Rattle.rank.specs.Calls.{refusedOf, mergeOf, startOf, turnsOf, stepOf, rankingOf};
 use refusal::Outcome;
 use refusal::Refusal;
@@ -216,6 +215,21 @@ pub fn insert(r: Ranked, c: Candidate) -> Ranked
     sink(r, c)
 }
 
+// The same list with its unused slots blank.
+fn tidy(r: Ranked) -> Ranked
+    ensures { λ q. ⌜ q ≡ pack (unpack r) ⌝ }
+{
+    let n = used(r.len);
+    let b = blank();
+    let mut slots = r.slots;
+    let mut i = n;
+    while i < PLACES {
+        slots[i] = b;
+        i += 1;
+    }
+    Ranked { len: n, slots }
+}
+
 // A ranked list with each candidate of another more.
 fn insert_all(to: Ranked, from: Ranked) -> Ranked
     ensures { λ r. ⌜ r ≡ insertAll to (unpack from) ⌝ }
@@ -231,12 +245,12 @@ fn insert_all(to: Ranked, from: Ranked) -> Ranked
     r
 }
 
-// Whether a candidate of port `p` is in the list, from slot `from` on.
-fn holds_from(r: Ranked, p: u8, from: usize) -> bool
-    ensures { λ b. ⌜ b ≡ holdsOf p (drop from (unpack r)) ⌝ }
+// Whether a candidate of port `p` is in the list.
+pub fn holds(r: Ranked, p: u8) -> bool
+    ensures { λ b. ⌜ b ≡ holdsOf p (unpack r) ⌝ }
 {
     let n = used(r.len);
-    let mut i = from;
+    let mut i: usize = 0;
     while i < n {
         let x = r.slots[i];
         if x.port == p {
@@ -247,35 +261,8 @@ fn holds_from(r: Ranked, p: u8, from: usize) -> bool
     false
 }
 
-// Whether a candidate of port `p` is in the list.
-pub fn holds(r: Ranked, p: u8) -> bool
-    ensures { λ b. ⌜ b ≡ holdsOf p (unpack r) ⌝ }
-{
-    holds_from(r, p, 0)
-}
-
-// Whether slot `i`, a used one, is as in a ranked list: its port is the clock's and no later slot's, and the next
-// slot's candidate stands after it.
-fn stands(r: Ranked, i: usize) -> bool
-    requires { ⌜ i < min (r .len) 4 ⌝ }
-    ensures { λ b. ⌜ b ≡ standsOf (drop i (unpack r)) ⌝ }
-{
-    let x = r.slots[i];
-    let p = x.port;
-    if !is_port(p) {
-        return false;
-    }
-    if holds_from(r, p, i + 1) {
-        return false;
-    }
-    if i + 1 < used(r.len) {
-        let y = r.slots[i + 1];
-        return earlier(x, y);
-    }
-    true
-}
-
-// Whether a list is a ranked list: at most four, of different ports from 1 to 18, rising strictly in rank order.
+// Whether a list is a ranked list: at most four, of different ports from 1 to 18, rising strictly in rank order. Each slot's
+// port is the clock's and no later slot's, and the next slot's candidate stands after it.
 pub fn is_ranked(r: Ranked) -> bool
     ensures { λ b. ⌜ b ≡ isRanked r ⌝ }
 {
@@ -285,8 +272,24 @@ pub fn is_ranked(r: Ranked) -> bool
     }
     let mut i: usize = 0;
     while i < n {
-        if !stands(r, i) {
+        let x = r.slots[i];
+        let p = x.port;
+        if !is_port(p) {
             return false;
+        }
+        let mut j = i + 1;
+        while j < n {
+            let z = r.slots[j];
+            if z.port == p {
+                return false;
+            }
+            j += 1;
+        }
+        if i + 1 < n {
+            let y = r.slots[i + 1];
+            if !earlier(x, y) {
+                return false;
+            }
         }
         i += 1;
     }
@@ -316,7 +319,7 @@ pub fn merge(a: Ranked, b: Ranked) -> Ranking
     if !(is_ranked(a) & is_ranked(b)) {
         return refused(Refusal::Unranked);
     }
-    let list = insert_all(insert_all(empty(), a), b);
+    let list = insert_all(tidy(a), b);
     Ranking {
         outcome: Outcome::Done,
         list,
@@ -336,7 +339,7 @@ pub fn start(n: usize) -> Ranking
     }
 }
 
-// One candidate of a run more: what is refused stays refused.
+// One candidate of a run more: what is refused stays refused. A list that leaves the candidate out is not copied.
 pub fn step(s: Ranking, c: Candidate) -> Ranking
     ensures { λ r. ⌜ r ≡ stepOf s c ⌝ }
 {
@@ -349,9 +352,13 @@ pub fn step(s: Ranking, c: Candidate) -> Ranking
         return refused(Refusal::Port);
     }
     let list = s.list;
+    if left_out(list, c) {
+        return s;
+    }
+    let before = s.list;
     Ranking {
         outcome,
-        list: insert(list, c),
+        list: sink(before, c),
     }
 }
 

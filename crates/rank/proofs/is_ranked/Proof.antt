@@ -1,15 +1,24 @@
--- `is_ranked` meets its contract: what is left to look at is in rank exactly when the list is a ranked list.
+-- `is_ranked` meets its contract: what is left to look at is in rank exactly when the list is a ranked list, and what is left
+-- of the later slots holds a slot's port exactly when all of them do.
 use Prim.Native.Nat.{_-_, _+_}
-use mathlib.Core.Path.{_≡_, sym, _∙_}
-use mathlib.Core.Bool.{_&&_}
+use mathlib.Core.Path.{_≡_, refl, sym, _∙_}
+use mathlib.Core.List.{_∷_}
+use mathlib.Core.Bool.{true, false, not, _&&_}
 use native.Mathlib.Omega.{arith}
 use borrow.Author.Needs.{needs}
-use borrow.Author.Tests.{not-true, not-false, le-leb, lt-leb}
-use lib.ListN.{length, drop, length-map}
-use Rattle.rank.specs.Ranked.{standsOf, inRank, isRanked, unpack, blankOf}
+use borrow.Author.Tests.{not-true, not-false, le-leb, lt-leb, eq-eqb, ne-eqb}
+use lib.ListN.{length, drop, getD, length-map}
+use Rattle.rank.specs.Ranked.{isPort, holdsOf, leadsOf, inRank, isRanked, unpack, blankOf}
+use Rattle.rank.proofs.Best.{either}
 use Rattle.rank.proofs.Sinking.{here, none}
 use Rattle.rank.proofs.is_ranked.Statement.{statement}
 use Rattle.rank.proofs.is_ranked.Tie as tie
+
+abbrev Inv-loop2 : tie.InvT-loop2
+Inv-loop2 r n i x p j₀ j = holdsOf p (drop j (unpack r)) ≡ holdsOf p (drop (i + 1) (unpack r))
+
+abbrev μ-loop2 : tie.MeasureT-loop2
+μ-loop2 r n i x p j₀ j = n - j
 
 abbrev Inv-loop : tie.InvT-loop
 Inv-loop r n i₀ i = inRank (drop i (unpack r)) ≡ isRanked r
@@ -17,56 +26,178 @@ Inv-loop r n i₀ i = inRank (drop i (unpack r)) ≡ isRanked r
 abbrev μ-loop : tie.MeasureT-loop
 μ-loop r n i₀ i = n - i
 
-size : (c : tie.Start Inv-loop μ-loop) → length (c .args .r .slots) ≡ 4
+size : (c : tie.Start Inv-loop2 μ-loop2 Inv-loop μ-loop) → length (c .args .t1 .slots) ≡ 4
 size c = simp length-map at (c .good .0 .1 .1 .1 .0 .1 .0 .1)
 
 -- the invariant in a turn: this slot, and the others
-turn : (c : tie.In-loop Inv-loop μ-loop)
-    → let r = c .before .before .before .args .r in
+turn : (c : tie.In-loop Inv-loop2 μ-loop2 Inv-loop μ-loop)
+    → let r = c .before .before .before .args .t1 in
     let i = c .before .loop .i in
-    (standsOf (drop i (unpack r)) && inRank (drop (i + 1) (unpack r))) ≡ isRanked r
+    let x = getD (r .slots) i blankOf in
+    let others = drop (i + 1) (unpack r) in
+    ((isPort (x .port) && (not (holdsOf (x .port) others) && leadsOf x others)) && inRank others) ≡ isRanked r
 turn c =
     let l = c .before in
-    let h = here (l .before .before .args .r) (l .loop .i) blankOf (size (l .before .before)) (omega arith) in
-    rw h (rw h at (l .loop .inv))
+    rw (here (l .before .before .args .t1) (l .loop .i) blankOf (size (l .before .before)) (omega arith)) at (l .loop .inv)
 
-returns : tie.Need-returns Inv-loop μ-loop
+-- the same where the port is the clock's
+ported : (c : tie.Else2 Inv-loop2 μ-loop2 Inv-loop μ-loop)
+    → let l = c .before .before .before .before in
+    let r = l .before .before .args .t1 in
+    let x = getD (r .slots) (l .loop .i) blankOf in
+    let others = drop (l .loop .i + 1) (unpack r) in
+    ((not (holdsOf (x .port) others) && leadsOf x others) && inRank others) ≡ isRanked r
+ported c = rw (sym (c .before .is-port .ensures) ∙ not-false _ (c .if2 .left)) at (turn (c .before .before .before))
+
+-- and no later slot's
+alone : (c : tie.After-loop2 Inv-loop2 μ-loop2 Inv-loop μ-loop)
+    → let l = c .before .before .before .before .before .before in
+    let r = l .before .before .args .t1 in
+    let x = getD (r .slots) (l .loop .i) blankOf in
+    let others = drop (l .loop .i + 1) (unpack r) in
+    (leadsOf x others && inRank others) ≡ isRanked r
+alone c =
+    let m = c .before in
+    let s = m .before .before .before .before .before .before .before in
+    let h = rw (none (s .args .t1) (m .loop2 .j) (size s) (omega arith)) at (m .loop2 .inv) in
+    rw (sym h) at (ported (m .before))
+
+returns : tie.Need-returns Inv-loop2 μ-loop2 Inv-loop μ-loop
 returns c = simp (lt-leb _ _ (c .if1 .taken))
 
-loop-holds : tie.Need-loop-holds Inv-loop μ-loop
+loop-holds : tie.Need-loop-holds Inv-loop2 μ-loop2 Inv-loop μ-loop
 loop-holds c = simp (le-leb _ _ (c .if1 .left))
 
-stands-requires : tie.Need-stands-requires Inv-loop μ-loop
-stands-requires c κs = search needs
+mul-x : tie.Need-mul-x Inv-loop2 μ-loop2 Inv-loop μ-loop
+mul-x c = search needs
 
-returns-2 : tie.Need-returns-2 Inv-loop μ-loop
-returns-2 c = rw (sym (c .before .stands .ensures) ∙ not-true _ (c .if2 .taken)) at (turn (c .before .before))
+element-copy-out-x : tie.Need-element-copy-out-x Inv-loop2 μ-loop2 Inv-loop μ-loop
+element-copy-out-x c = search needs
 
-add-i : tie.Need-add-i Inv-loop μ-loop
+is-port-requires : tie.Need-is-port-requires Inv-loop2 μ-loop2 Inv-loop μ-loop
+is-port-requires c κs = search needs
+
+returns-2 : tie.Need-returns-2 Inv-loop2 μ-loop2 Inv-loop μ-loop
+returns-2 c = rw (sym (c .before .is-port .ensures) ∙ not-true _ (c .if2 .taken)) at (turn (c .before .before .before))
+
+add-j : tie.Need-add-j Inv-loop2 μ-loop2 Inv-loop μ-loop
+add-j c = search needs
+
+loop2-holds : tie.Need-loop2-holds Inv-loop2 μ-loop2 Inv-loop μ-loop
+loop2-holds c = refl
+
+mul-z : tie.Need-mul-z Inv-loop2 μ-loop2 Inv-loop μ-loop
+mul-z c = search needs
+
+element-copy-out-z : tie.Need-element-copy-out-z Inv-loop2 μ-loop2 Inv-loop μ-loop
+element-copy-out-z c = search needs
+
+-- the later slots, from one that is looked at
+later : (c : tie.In-loop2 Inv-loop2 μ-loop2 Inv-loop μ-loop)
+    → let m = c .before in
+    let s = m .before .before .before .before .before .before .before in
+    drop (m .loop2 .j) (unpack (s .args .t1)) ≡ getD (s .args .t1 .slots) (m .loop2 .j) blankOf ∷ drop (m .loop2 .j + 1) (unpack (s .args .t1))
+later c =
+    let m = c .before in
+    let s = m .before .before .before .before .before .before .before in
+    here (s .args .t1) (m .loop2 .j) blankOf (size s) (omega arith)
+
+returns-3 : tie.Need-returns-3 Inv-loop2 μ-loop2 Inv-loop μ-loop
+returns-3 c =
+    let t = c .before .before .before in
+    let h = simp (eq-eqb _ _ (c .if3 .taken)) at (rw (later t) at (t .before .loop2 .inv)) in
+    rw (sym h) at (ported (t .before .before))
+
+add-j-2 : tie.Need-add-j-2 Inv-loop2 μ-loop2 Inv-loop μ-loop
+add-j-2 c = search needs
+
+loop2-less : tie.Need-loop2-less Inv-loop2 μ-loop2 Inv-loop μ-loop
+loop2-less c = search needs
+
+loop2-again : tie.Need-loop2-again Inv-loop2 μ-loop2 Inv-loop μ-loop
+loop2-again c =
+    let t = c .before .before .before in
+    simp (ne-eqb _ _ (c .if3 .left)) at (rw (later t) at (t .before .loop2 .inv))
+
+add-if4 : tie.Need-add-if4 Inv-loop2 μ-loop2 Inv-loop μ-loop
+add-if4 c = search needs
+
+add-y : tie.Need-add-y Inv-loop2 μ-loop2 Inv-loop μ-loop
+add-y c = search needs
+
+mul-y : tie.Need-mul-y Inv-loop2 μ-loop2 Inv-loop μ-loop
+mul-y c = search needs
+
+element-copy-out-y : tie.Need-element-copy-out-y Inv-loop2 μ-loop2 Inv-loop μ-loop
+element-copy-out-y c = search needs
+
+earlier-requires : tie.Need-earlier-requires Inv-loop2 μ-loop2 Inv-loop μ-loop
+earlier-requires c κs = search needs
+
+returns-4 : tie.Need-returns-4 Inv-loop2 μ-loop2 Inv-loop μ-loop
+returns-4 c =
+    let e = c .before in
+    let t = e .before .before in
+    let l = t .before .before .before .before .before .before .before in
+    let s = l .before .before in
+    let y = here (s .args .t1) (l .loop .i + 1) blankOf (size s) (omega (arith, t .if4 .taken)) in
+    rw (sym (e .earlier .ensures) ∙ not-true _ (c .if5 .taken)) at (rw y at (alone (t .before)))
+
+-- the next slot's candidate, if there is one, stands after this one
+led : (c : tie.Joined4 Inv-loop2 μ-loop2 Inv-loop μ-loop)
+    → let l = c .before .before .before .before .before .before .before in
+    let r = l .before .before .args .t1 in
+    leadsOf (getD (r .slots) (l .loop .i) blankOf) (drop (l .loop .i + 1) (unpack r)) ≡ true
+led c =
+    let l = c .before .before .before .before .before .before .before in
+    let s = l .before .before in
+    either (c .if4 .came)
+    (λ w. rw (here (s .args .t1) (l .loop .i + 1) blankOf (size s) (omega (arith, w .0 .taken))) (sym (w .2 .ensures) ∙ not-false _ (w .3 .left)))
+    (λ w. rw (none (s .args .t1) (l .loop .i + 1) (size s) (omega (arith, w .left))))
+
+add-i : tie.Need-add-i Inv-loop2 μ-loop2 Inv-loop μ-loop
 add-i c = search needs
 
-loop-less : tie.Need-loop-less Inv-loop μ-loop
+loop-less : tie.Need-loop-less Inv-loop2 μ-loop2 Inv-loop μ-loop
 loop-less c = search needs
 
-loop-again : tie.Need-loop-again Inv-loop μ-loop
-loop-again c = rw (sym (c .before .stands .ensures) ∙ not-false _ (c .if2 .left)) at (turn (c .before .before))
+loop-again : tie.Need-loop-again Inv-loop2 μ-loop2 Inv-loop μ-loop
+loop-again c = rw (led c) at (alone (c .before))
 
-returns-3 : tie.Need-returns-3 Inv-loop μ-loop
-returns-3 c =
+returns-5 : tie.Need-returns-5 Inv-loop2 μ-loop2 Inv-loop μ-loop
+returns-5 c =
     let l = c .before in
-    rw (none (l .before .before .args .r) (l .loop .i) (size (l .before .before)) (omega arith)) at (l .loop .inv)
+    rw (none (l .before .before .args .t1) (l .loop .i) (size (l .before .before)) (omega arith)) at (l .loop .inv)
 
 pub is-ranked-spec : {M : Type 1} → statement M
 is-ranked-spec =
     tie.close
     (tie.spec
+    Inv-loop2
+    μ-loop2
     Inv-loop
     μ-loop
     returns
     loop-holds
-    stands-requires
+    mul-x
+    element-copy-out-x
+    is-port-requires
     returns-2
+    add-j
+    loop2-holds
+    mul-z
+    element-copy-out-z
+    returns-3
+    add-j-2
+    loop2-less
+    loop2-again
+    add-if4
+    add-y
+    mul-y
+    element-copy-out-y
+    earlier-requires
+    returns-4
     add-i
     loop-less
     loop-again
-    returns-3)
+    returns-5)

@@ -1,5 +1,5 @@
--- `merge` meets its contract: unless both lists pass it is refused; inserting one list and then the other gives the
--- ranked list of both.
+-- `merge` meets its contract: unless both lists pass it is refused; inserting the second list into the first, tidied,
+-- gives the ranked list of both.
 use mathlib.Core.Path.{_≡_, sym, ap₂, _∙_}
 use mathlib.Core.Bool.{_&&_}
 use borrow.Author.Needs.{needs}
@@ -28,26 +28,22 @@ returns : tie.Need-returns
 unfolding refuse
 returns c = rw (c .refused .ensures, tested (c .before .before) ∙ not-true _ (c .before .if1 .taken))
 
-empty-requires : tie.Need-empty-requires
-empty-requires c κs = search needs
+tidy-requires : tie.Need-tidy-requires
+tidy-requires c κs = search needs
 
 insert-all-requires : tie.Need-insert-all-requires
 insert-all-requires c κs = search needs
 
-insert-all-requires-2 : tie.Need-insert-all-requires-2
-insert-all-requires-2 c κs = search needs
-
 returns-2 : tie.Need-returns-2
 unfolding refuse
 returns-2 c =
-    let t = c .before .before .before in
+    let t = c .before .before in
     let s = t .before .before .before .args in
     let h = tested (t .before) ∙ not-false _ (t .if1 .left) in
     let p = both (isRanked (s .a)) (isRanked (s .b)) h in
     rw (
-      c .insert-all2 .ensures,
-      c .before .insert-all .ensures,
-      c .before .before .empty .ensures,
+      c .insert-all .ensures,
+      c .before .tidy .ensures,
       merged (s .a) (s .b) (p .0) (p .1),
       h,
     )
@@ -60,7 +56,6 @@ merge-spec =
     is-ranked-requires-2
     refused-requires
     returns
-    empty-requires
+    tidy-requires
     insert-all-requires
-    insert-all-requires-2
     returns-2)

@@ -27,14 +27,25 @@ returns-2 c =
     let p = c .before .before in
     rw (c .refused .ensures, p .before .enum-told .given .1, sym (p .is-port .ensures) ∙ not-true _ (c .before .if1 .taken))
 
-insert-requires : tie.Need-insert-requires
-insert-requires c κs = search needs
+left-out-requires : tie.Need-left-out-requires
+left-out-requires c κs = search needs
 
 returns-3 : tie.Need-returns-3
 unfolding refuse
 returns-3 c =
-    let p = c .before .before .before in
-    rw (c .insert .ensures, p .before .enum-told .given .1, sym (p .is-port .ensures) ∙ not-false _ (c .before .before .if1 .left))
+    let l = c .before in
+    let p = l .before .before .before in
+    rw (p .before .enum-told .given .1, sym (p .is-port .ensures) ∙ not-false _ (l .before .before .if1 .left), sym (l .left-out .ensures) ∙ c .if2 .taken)
+
+sink-requires : tie.Need-sink-requires
+sink-requires c κs = search needs
+
+returns-4 : tie.Need-returns-4
+unfolding refuse
+returns-4 c =
+    let l = c .before .before .before in
+    let p = l .before .before .before in
+    rw (c .sink .ensures, p .before .enum-told .given .1, sym (p .is-port .ensures) ∙ not-false _ (l .before .before .if1 .left), sym (l .left-out .ensures) ∙ c .before .before .if2 .left)
 
 pub step-spec : {M : Type 1} → statement M
 step-spec =
@@ -46,5 +57,7 @@ step-spec =
     is-port-requires
     refused-requires
     returns-2
-    insert-requires
-    returns-3)
+    left-out-requires
+    returns-3
+    sink-requires
+    returns-4)

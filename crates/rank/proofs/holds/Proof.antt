@@ -1,4 +1,4 @@
--- `holds_from` meets its contract: what is left to look at holds the port exactly when all of it does.
+-- `holds` meets its contract: what is left to look at holds the port exactly when all of it does.
 use Prim.Native.Nat.{_-_}
 use mathlib.Core.Path.{_≡_, refl}
 use native.Mathlib.Omega.{arith}
@@ -7,14 +7,14 @@ use borrow.Author.Tests.{eq-eqb, ne-eqb}
 use lib.ListN.{length, drop, length-map}
 use Rattle.rank.specs.Ranked.{holdsOf, unpack, blankOf}
 use Rattle.rank.proofs.Sinking.{here, none}
-use Rattle.rank.proofs.holds_from.Statement.{statement}
-use Rattle.rank.proofs.holds_from.Tie as tie
+use Rattle.rank.proofs.holds.Statement.{statement}
+use Rattle.rank.proofs.holds.Tie as tie
 
 abbrev Inv-loop : tie.InvT-loop
-Inv-loop p from r n i₀ i = holdsOf p (drop i (unpack r)) ≡ holdsOf p (drop from (unpack r))
+Inv-loop p r n i₀ i = holdsOf p (drop i (unpack r)) ≡ holdsOf p (unpack r)
 
 abbrev μ-loop : tie.MeasureT-loop
-μ-loop p from r n i₀ i = n - i
+μ-loop p r n i₀ i = n - i
 
 slots : (c : tie.Start Inv-loop μ-loop) → length (c .args .t1 .slots) ≡ 4
 slots c = simp length-map at (c .good .0 .1 .1 .1 .0 .1 .0 .1)
@@ -54,8 +54,8 @@ returns-2 c =
     let l = c .before in
     rw (none (l .before .before .args .t1) (l .loop .i) (slots (l .before .before)) (omega (arith, l .before .used .ensures))) at (l .loop .inv)
 
-pub holds-from-spec : {M : Type 1} → statement M
-holds-from-spec =
+pub holds-spec : {M : Type 1} → statement M
+holds-spec =
     tie.close
     (tie.spec
     Inv-loop
