@@ -320,7 +320,9 @@ static void try_writing(void)
         expect(words(SECOND)[0] <= room && !memcmp(octets(OUT) + words(SECOND)[0], (uint8_t *)(was[OUT] + FRONT) + words(SECOND)[0], room - words(SECOND)[0]), "octets past the message have changed");
         uint64_t m[DZ_MESSAGE_WORDS];
         memcpy(m, words(FIRST), sizeof m);
-        expect(dz_read(octets(OUT), words(SECOND)[0], magic, words(FIRST), words(SECOND)) == 0 && !memcmp(m, words(FIRST), sizeof m), "what was written is read as another message");
+        /* words that the type has no field for were not looked at */
+        size_t fields = m[DZ_M_TYPE] == DZ_ANNOUNCE ? DZ_MESSAGE_WORDS : m[DZ_M_TYPE] == DZ_DELAY_RESP ? DZ_M_REQUESTER_PORT + 1 : DZ_M_NANOS + 1;
+        expect(dz_read(octets(OUT), words(SECOND)[0], magic, words(FIRST), words(SECOND)) == 0 && !memcmp(m, words(FIRST), fields * 8), "what was written is read as another message");
     }
     for (int i = 0; i < DZ_LINK_MESSAGE_WORDS; i++) words(MORE)[i] = below(6) ? 0 : edge();
     words(MORE)[DZ_L_NUMBER] = DZ_SLAVE_PRESENT + below(7);
