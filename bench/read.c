@@ -1,24 +1,70 @@
-/* An Announce read by hand in C, fields added up: all of them, with -DKEPT those that intake keeps. */
-#include "read.h"
+/* A message read, and a TLV looked up, by hand in C. */
+#include "message.h"
 
-#ifndef KEPT
-/* Every field of an Announce. */
-uint64_t c_count_announce(const uint8_t *s, size_t n, uint16_t magic)
+static void put_announce(uint64_t *m, const uint8_t *s)
 {
-    uint64_t flags;
-    int fault = announce_fault(s, n, magic, &flags);
-    if (fault) return fault;
-    return (uint64_t)s[0] / 16 + s[4] + be16(s + 6) + be64(s + 8) + be64(s + 20) + be16(s + 28) + be16(s + 30) + s[33] + be48(s + 34) + be32(s + 40)
-        + be16(s + 44) + s[47] + s[48] + s[49] + be16(s + 50) + s[52] + be64(s + 53) + be16(s + 61) + s[63] + flags;
+    m[DZ_M_UTC] = (uint64_t)(int16_t)be16(s + 44);
+    m[DZ_M_PRIORITY1] = s[47];
+    m[DZ_M_CLASS] = s[48];
+    m[DZ_M_ACCURACY] = s[49];
+    m[DZ_M_VARIANCE] = be16(s + 50);
+    m[DZ_M_PRIORITY2] = s[52];
+    m[DZ_M_GRANDMASTER] = be64(s + 53);
+    m[DZ_M_STEPS] = be16(s + 61);
+    m[DZ_M_SOURCE] = s[63];
 }
 
-#else
-/* What intake keeps of it. */
-uint64_t c_count_kept(const uint8_t *s, size_t n, uint16_t magic)
+/* The words from the first of the body on; those that the type has no field for are 0. */
+static void put_body(uint64_t *m, const uint8_t *s)
 {
-    uint64_t flags;
-    int fault = announce_fault(s, n, magic, &flags);
-    if (fault) return fault;
-    return (uint64_t)s[4] + be64(s + 20) + be16(s + 28) + be16(s + 30) + s[47] + s[48] + s[49] + be16(s + 50) + s[52] + be64(s + 53) + be16(s + 61) + flags;
+    if (m[DZ_M_TYPE] == DZ_SIGNALING) {
+        m[DZ_M_TARGET_CLOCK] = be64(s + 34);
+        m[DZ_M_TARGET_PORT] = be16(s + 42);
+    } else {
+        m[DZ_M_SECONDS] = be48(s + 34);
+        m[DZ_M_NANOS] = be32(s + 40);
+    }
+    if (m[DZ_M_TYPE] == DZ_ANNOUNCE) {
+        put_announce(m, s);
+        return;
+    }
+    for (int i = DZ_M_REQUESTER_CLOCK; i < DZ_MESSAGE_WORDS; i++) m[i] = 0;
+    if (m[DZ_M_TYPE] == DZ_DELAY_RESP) {
+        m[DZ_M_REQUESTER_CLOCK] = be64(s + 44);
+        m[DZ_M_REQUESTER_PORT] = be16(s + 52);
+    }
 }
-#endif
+
+dz_answer c_read(const uint8_t *s, size_t n, uint16_t magic, uint64_t *m, uint64_t *tail)
+{
+    size_t at, size;
+    uint64_t flags;
+    dz_answer fault = message_fault(s, n, magic, &at, &size, &flags);
+    if (fault) return fault;
+    m[DZ_M_TYPE] = s[0] % 16;
+    m[DZ_M_TRANSPORT] = s[0] / 16;
+    m[DZ_M_DOMAIN] = s[4];
+    m[DZ_M_FLAGS] = be16(s + 6);
+    m[DZ_M_CORRECTION] = be64(s + 8);
+    m[DZ_M_CLOCK] = be64(s + 20);
+    m[DZ_M_PORT] = be16(s + 28);
+    m[DZ_M_SEQUENCE] = be16(s + 30);
+    m[DZ_M_INTERVAL] = (uint64_t)(int8_t)s[33];
+    put_body(m, s);
+    tail[DZ_TAIL_AT] = at;
+    tail[DZ_TAIL_LENGTH] = size;
+    return DZ_OK;
+}
+
+dz_answer c_lookup(const uint8_t *s, size_t n, uint16_t type, uint16_t magic, uint64_t *found)
+{
+    size_t at, size, end;
+    uint64_t flags;
+    dz_answer fault = message_fault(s, n, magic, &at, &size, &flags);
+    if (fault) return fault;
+    for (end = at + size; at < end && be16(s + at) != type;) at += 4 + (size_t)be16(s + at + 2);
+    found[DZ_FOUND] = at < end;
+    found[DZ_FOUND_DATA_AT] = at < end ? at + 4 : 0;
+    found[DZ_FOUND_DATA_LENGTH] = at < end ? be16(s + at + 2) : 0;
+    return DZ_OK;
+}

@@ -1,191 +1,329 @@
-/* Calls one function N times and ends: what is counted. No library, so that nothing else runs. -DCALL=function, -DN=times;
-   -DREAD for a message, with -DSUFFIX the one with the White Rabbit suffix; -DWRITE for one to be written; -DDELAY for an exchange; -DLINK for
-   a message to a link; -DTAKE for an Announce taken, from -DSENDERS=n senders in turn or with -DNEW=first from one new name after the other;
-   -DBEST for the best of a port. -DSTATE="file" gives the words to begin with, -DDUMP writes them at the end. -DCOMPARE=KEY for two data
-   sets that differ in that key, -DMERGE for two lists of four, -DRANK for a run of 288 candidates, with -DSTRUCTS as C keeps them,
-   else a word for each key. */
-#include <stddef.h>
-#include <stdint.h>
-#include "compare.h"
+/* run ROW SIDE TURNS    makes one call of include/dzervolat.h over and over; SIDE is `ours`, `hand` or `nothing`. What is counted.
+   run ROW same          makes it by both in turn, and ends with status 1 where they do not answer the same words.
+   run ROW time          prints the nanoseconds of a call, ours and by hand: the least of several runs, less that of a function that does nothing.
+   run flood             prints the words of the ports after one of them has refused 99,999 new names, which the row `flooded` reads.
 
-#if defined(READ)
-#define TAKES const uint8_t *s, size_t n, uint16_t magic
-#define HANDS message, length, 0xABCD
-#elif defined(WRITE)
-#define TAKES uint8_t *s, const uint64_t *w, uint16_t magic
-#define HANDS page, announce, 0xABCD
-#elif defined(DELAY)
-#define TAKES const uint64_t *s
-#define HANDS exchange
-#elif defined(TAKE)
-#define TAKES uint64_t *s, uint8_t port, uint64_t t, const uint8_t *m, size_t n, uint64_t clock, uint8_t domain, uint16_t magic
-#define HANDS words, 7, announced_at(i), message, length, 1, 0, 0xABCD
-#elif defined(BEST)
-#define TAKES uint64_t *s, uint8_t port, uint64_t t
-#define HANDS words, 7, 2000000000
-#elif defined(COMPARE) || defined(MERGE)
-#define TAKES const void *s, const void *t
-#define HANDS memory, other
-#elif defined(RANK)
-#define TAKES const void *s
-#define HANDS memory
-#else
-#define TAKES uint64_t *s, uint8_t port, uint16_t number
-#define HANDS words, 7, 0x1001
-#endif
+   For x86-64 Linux, without a C library, so that nothing else runs and is counted. */
+#include "hand.h"
 
-uint64_t CALL(TAKES);
+enum { PORT = 7, ROOM = 128, ANNOUNCE_OCTETS = 64, RUN = DZ_PORTS * DZ_SLOTS };
+static const uint64_t second = 1000000000, own_clock = 1;
+static const uint16_t magic = DZ_EXAMPLE_MAGIC;
 
-#ifdef EMPTY
-/* weak, so that its arguments are handed over though it does not look at them */
-uint64_t __attribute__((noinline, weak)) CALL(TAKES)
-{
-    __asm__ volatile("" : : "r"(s) : "memory");
-    return 1000;
-}
-#endif
+/* ---- the system ---------------------------------------------------------------------------------------------------------------- */
 
-/* Eighteen links: that of port 7, a slave in PRESENT, is told LOCK and goes to S_LOCK; each turn puts it back. Or eighteen ports. */
-#ifdef STATE
-extern uint64_t words[1764];
-__asm__(".data\n.balign 8\nwords: .incbin \"" STATE "\"\n.text\n");
-#else
-static uint64_t words[1764];
-#endif
-static uint64_t exchange[18] = {1700000000, 123456789, 1 << 20, 3 << 18, 1700000000, 123999999, 4660, 1700000000, 500000000, 22136, 1700000000, 500500500, 1 << 19,
-    230000000000, 240000000000, 250000000000, 260000000000, 1 << 20};
-/* The message below in the words of the call `write`, with wrFlags 7. */
-static uint64_t announce[20] = {0, 0, 0, 0, 0x001122fffe334455, 1, 7, 0, 1700000000, 123456789, 37, 128, 6, 0x21, 0x4e5d, 128, 0x001122fffe334455, 0, 0x20, 7};
-static uint8_t page[128];
-static uint8_t message[78] = {
-    0x0b, 0x02, 0x00, 64, 0, 0, 0, 0, 0, 0, 0, 0, 0, 0, 0, 0, 0, 0, 0, 0, 0x00, 0x11, 0x22, 0xff, 0xfe, 0x33, 0x44, 0x55, 0, 1, 0, 7, 5, 0,
-    0, 0, 0x65, 0x53, 0xf1, 0x00, 0x07, 0x5b, 0xcd, 0x15, 0, 37, 0, 128, 6, 0x21, 0x4e, 0x5d, 128, 0x00, 0x11, 0x22, 0xff, 0xfe, 0x33, 0x44, 0x55,
-    0, 0, 0x20, 0x00, 0x03, 0x00, 0x0a, 0x08, 0x00, 0x30, 0xab, 0xcd, 0x01, 0x20, 0x00, 0x00, 0x07,
-};
-
-static uint64_t memory[3168], other[3168];
-
-/* A grandmaster, by its keys. */
-static struct grandmaster grandmaster(const uint64_t *k)
-{
-    return (struct grandmaster){k[0], k[1], k[2], k[3], k[4], k[5]};
-}
-
-/* A data set or a candidate of eleven keys, number i of those in memory, in the form that is counted. */
-static void put_set(uint64_t *to, const uint64_t *k)
-{
-#ifdef STRUCTS
-    *(struct set *)to = (struct set){grandmaster(k), k[6], {k[7], k[8]}, {k[9], k[10]}};
-#else
-    __builtin_memcpy(to, k, 88);
-#endif
-}
-
-static void put_candidate(uint64_t *to, int i, const uint64_t *k)
-{
-#ifdef STRUCTS
-    ((struct candidate *)to)[i] = (struct candidate){grandmaster(k), k[6], {k[7], k[8]}, k[9], k[10]};
-#else
-    __builtin_memcpy(to + 11 * i, k, 88);
-#endif
-}
-
-/* Two sets of one grandmaster, the second higher in one key. */
-static void two_sets(int key)
-{
-    uint64_t k[11] = {128, 6, 0x21, 0x4e5d, 128, 0x001122fffe334455, 2, 0x00aabbfffe000001, 1, 0x00ccddfffe000001, 3};
-    put_set(memory, k);
-    k[key]++;
-    if (key < 5) k[5]++;
-    put_set(other, k);
-}
-
-/* Two lists of four, of eight ports, that take turns in rank order. */
-static void two_lists(void)
-{
-    for (uint64_t i = 0; i < 8; i++) {
-        uint64_t k[11] = {128, 6 + i, 0x21, 0x4e5d, 128, 0x001122fffe334455 + i, 2, 0x00aabbfffe000001 + i, 1, i + 1, 7};
-#ifdef STRUCTS
-        uint64_t *list = i % 2 ? other : memory;
-        list[0] = 4;
-        put_candidate(list + 1, i / 2, k);
-#else
-        put_candidate(i % 2 ? other : memory, i / 2, k);
-#endif
-    }
-}
-
-/* Sixteen masters on each of eighteen ports, in no order: eight grandmasters of four classes, up to three steps away. */
-static void run_of_288(void)
-{
-    uint64_t x = 1;
-    for (int i = 0; i < 288; i++) {
-        uint64_t which;
-        x = x * 6364136223846793005u + 1442695040888963407u;
-        which = x >> 40 & 7;
-        uint64_t k[11] = {128, 6 + which / 2, 0x21, 0x4e5d, 128, 0x001122fffe334455 + which, x >> 50 & 3, 0x00aabbfffe000001 + i, 1, i % 18 + 1, x >> 60};
-        put_candidate(memory, i, k);
-    }
-}
-
-#ifdef TAKE
-#ifdef NEW
-#define ANSWER 13
-#define NAME (NEW + i)
-#define FIRST 2000000000
-#else
-#define ANSWER 0
-#define NAME (i % SENDERS)
-#define FIRST 1000000000
-#endif
-/* The next Announce is that of turn i, a nanosecond after the one before. */
-static inline uint64_t announced_at(long i)
-{
-    uint32_t name = __builtin_bswap32(NAME);
-    uint16_t sequence = __builtin_bswap16(i);
-    __builtin_memcpy(message + 24, &name, 4);
-    __builtin_memcpy(message + 30, &sequence, 2);
-    __asm__ volatile("" : : "r"(message) : "memory");
-    return FIRST + i;
-}
-#endif
-
-static long call(long number, long a, const void *b, long c)
+static long system_call(long number, long a, const void *b, long c)
 {
     __asm__ volatile("syscall" : "+a"(number) : "D"(a), "S"(b), "d"(c) : "rcx", "r11", "memory");
     return number;
 }
 
-void __attribute__((noreturn, force_align_arg_pointer)) _start(void)
+static void __attribute__((noreturn)) leave(int status)
 {
-    size_t length = 64;
-    uint64_t sum = 0;
-    long turns = N;
-#ifdef SUFFIX
-    message[3] = length = 78;
-#endif
-#ifdef COMPARE
-    two_sets(COMPARE);
-#endif
-#ifdef MERGE
-    two_lists();
-#endif
-#ifdef RANK
-    run_of_288();
-#endif
-    __asm__ volatile("" : "+r"(turns));
-    for (long i = 0; i < turns; i++) {
-        __asm__ volatile("" : : "r"(message), "r"(announce), "r"(page), "r"(exchange), "r"(words), "r"(memory), "r"(other) : "memory");
-#ifdef LINK
-        words[24] = 1;
-#endif
-        sum += CALL(HANDS);
-    }
-#if defined(TAKE) && !defined(EMPTY)
-    if (sum != N * ANSWER) call(60, 1, NULL, 0);
-#endif
-#ifdef DUMP
-    call(1, 1, words, sizeof words);
-#endif
-    for (;;) call(60, sum == 1, NULL, length);
+    for (;;) system_call(60, status, NULL, 0);
 }
+
+static uint64_t nanoseconds(void)
+{
+    int64_t now[2];
+    system_call(228, 1, now, 0);
+    return (uint64_t)now[0] * second + (uint64_t)now[1];
+}
+
+static int is_same_text(const char *a, const char *b)
+{
+    while (*a && *a == *b) a++, b++;
+    return *a == *b;
+}
+
+static uint64_t number_of(const char *text)
+{
+    uint64_t n = 0;
+    while (*text) n = n * 10 + (uint64_t)(*text++ - '0');
+    return n;
+}
+
+static void print_number(uint64_t n, char after)
+{
+    char text[24], *at = text + sizeof text;
+    *--at = after;
+    do *--at = (char)('0' + n % 10);
+    while (n /= 10);
+    system_call(1, 1, at, text + sizeof text - at);
+}
+
+/* ---- what is lent -------------------------------------------------------------------------------------------------------------- */
+
+/* All that a row's calls are lent: as it is prepared, and then for each side. */
+struct lent {
+    uint64_t ports[DZ_PORTS_WORDS], links[DZ_LINKS_WORDS], before[DZ_LINKS_WORDS];
+    uint64_t message[DZ_MESSAGE_WORDS], tail[DZ_TAIL_WORDS], found[DZ_FOUND_WORDS], written;
+    uint64_t run[RUN * DZ_CANDIDATE_WORDS], a[DZ_LIST_WORDS], b[DZ_LIST_WORDS], list[DZ_LIST_WORDS];
+    uint64_t own[DZ_OWN_WORDS], set[DZ_SET_WORDS], rival[DZ_SET_WORDS], answer;
+    uint64_t step[DZ_STEP_WORDS], exchange[DZ_EXCHANGE_WORDS], measured[DZ_MEASURED_WORDS];
+    uint8_t announce[ANNOUNCE_OCTETS + DZ_SUFFIX_OCTETS], suffix[DZ_SUFFIX_OCTETS], out[ROOM], decisions[DZ_PORTS];
+    uint64_t length;
+};
+static struct lent fresh, lent[2];
+
+/* An Announce of a grandmaster, with or without the suffix. */
+static void put_announce(struct lent *m, int with_suffix)
+{
+    const uint64_t words[DZ_MESSAGE_WORDS] = {
+        [DZ_M_TYPE] = DZ_ANNOUNCE, [DZ_M_CLOCK] = 0x001122fffe334455, [DZ_M_PORT] = 1, [DZ_M_SEQUENCE] = 7, [DZ_M_SECONDS] = 1700000000, [DZ_M_NANOS] = 123456789, [DZ_M_UTC] = 37,
+        [DZ_M_PRIORITY1] = 128, [DZ_M_CLASS] = 6, [DZ_M_ACCURACY] = 0x21, [DZ_M_VARIANCE] = 0x4e5d, [DZ_M_PRIORITY2] = 128, [DZ_M_GRANDMASTER] = 0x001122fffe334455, [DZ_M_SOURCE] = 0x20,
+    };
+    __builtin_memcpy(m->message, words, sizeof words);
+    dz_write_suffix(7, magic, m->suffix);
+    dz_write(m->announce, sizeof m->announce, words, m->suffix, with_suffix ? DZ_SUFFIX_OCTETS : 0, magic, &m->length);
+}
+
+static void plain(struct lent *m) { put_announce(m, 0); }
+static void with_suffix(struct lent *m) { put_announce(m, 1); }
+
+/* Makes the Announce that of another sender and number. */
+static inline void rename(struct lent *m, uint32_t name, uint16_t sequence)
+{
+    name = __builtin_bswap32(name);
+    sequence = __builtin_bswap16(sequence);
+    __builtin_memcpy(m->announce + 24, &name, sizeof name);
+    __builtin_memcpy(m->announce + 30, &sequence, sizeof sequence);
+}
+
+/* Two Announces of a sender on a port: class, grandmaster and steps by its number, so that a grandmaster is heard at several distances. */
+static void hear(struct lent *m, uint64_t port, uint32_t sender)
+{
+    for (uint16_t sequence = 1; sequence <= 2; sequence++) {
+        rename(m, (uint32_t)port << 8 | sender, sequence);
+        m->announce[48] = (uint8_t)(6 + sender % 4);
+        m->announce[60] = (uint8_t)(sender % 8);
+        m->announce[62] = (uint8_t)((port + sender) % 4);
+        if (dz_take(m->ports, port, second, m->announce, m->length, 0, own_clock, magic) != DZ_OK) leave(2);
+    }
+}
+
+static void full_port(struct lent *m)
+{
+    plain(m);
+    for (uint32_t sender = 0; sender < DZ_SLOTS; sender++) hear(m, PORT, sender);
+}
+
+static void hear_all(struct lent *m, uint32_t senders)
+{
+    const uint64_t own[DZ_OWN_WORDS] = DZ_OWN_DEFAULT(own_clock);
+    plain(m);
+    __builtin_memcpy(m->own, own, sizeof own);
+    for (uint64_t port = 1; port <= DZ_PORTS; port++)
+        for (uint32_t sender = 0; sender < senders; sender++) hear(m, port, sender);
+}
+
+static void one_a_port(struct lent *m) { hear_all(m, 1); }
+static void sixteen_a_port(struct lent *m) { hear_all(m, DZ_SLOTS); }
+
+static void flooded_port(struct lent *m)
+{
+    plain(m);
+    if (system_call(0, 0, m->ports, sizeof m->ports) != (long)sizeof m->ports) leave(2);
+}
+
+/* Two sets of one grandmaster, the second higher in one word; where that is of the quality, it is another grandmaster. */
+static void two_sets(struct lent *m, int word)
+{
+    const uint64_t set[DZ_SET_WORDS] = {128, 6, 0x21, 0x4e5d, 128, 0x001122fffe334455, 2, 0x00aabbfffe000001, 1, 0x00ccddfffe000001, 3};
+    __builtin_memcpy(m->set, set, sizeof set);
+    __builtin_memcpy(m->rival, set, sizeof set);
+    m->rival[word]++;
+    if (word < DZ_C_GRANDMASTER) m->rival[DZ_C_GRANDMASTER]++;
+}
+
+static void by_priority1(struct lent *m) { two_sets(m, DZ_C_PRIORITY1); }
+static void by_identity(struct lent *m) { two_sets(m, DZ_C_GRANDMASTER); }
+static void by_topology(struct lent *m) { two_sets(m, DZ_C_SENDER_CLOCK); }
+
+static void put_candidate(uint64_t *c, uint64_t class, uint64_t grandmaster, uint64_t steps, uint64_t sender, uint64_t port, uint64_t flags)
+{
+    const uint64_t words[DZ_CANDIDATE_WORDS] = {128, class, 0x21, 0x4e5d, 128, 0x001122fffe334455 + grandmaster, steps, 0x00aabbfffe000001 + sender, 1, port, flags};
+    __builtin_memcpy(c, words, sizeof words);
+}
+
+/* Two lists of four, of eight ports, that take turns in rank order. */
+static void two_lists(struct lent *m)
+{
+    for (uint64_t i = 0; i < 8; i++) put_candidate(m->run + (i % 2 * 4 + i / 2) * DZ_CANDIDATE_WORDS, 6 + i, i, 2, i, i + 1, 7);
+    dz_rank(m->run, 4, m->a);
+    dz_rank(m->run + 4 * DZ_CANDIDATE_WORDS, 4, m->b);
+}
+
+/* Sixteen masters on each of eighteen ports, in no order: eight grandmasters of four classes, up to three steps away. */
+static void long_run(struct lent *m)
+{
+    uint64_t x = 1;
+    for (uint64_t i = 0; i < RUN; i++) {
+        x = x * 6364136223846793005u + 1442695040888963407u;
+        put_candidate(m->run + i * DZ_CANDIDATE_WORDS, 6 + (x >> 41 & 3), x >> 40 & 7, x >> 50 & 3, i, i % DZ_PORTS + 1, x >> 60);
+    }
+}
+
+/* A slave in PRESENT, which LOCK takes to S_LOCK; it is put back for each turn. */
+static void slave_present(struct lent *m)
+{
+    dz_link_set(m->links, PORT, DZ_CONFIG_SLAVE, 1, 3, 1000, 230000, 240000);
+    dz_link_start(m->links, PORT, DZ_CONFIG_MASTER, 0, m->step);
+    __builtin_memcpy(m->before, m->links, sizeof m->links);
+}
+
+static void typical_exchange(struct lent *m)
+{
+    const uint64_t exchange[DZ_EXCHANGE_WORDS] = {
+        [DZ_E_T1_SECONDS] = 1700000000, [DZ_E_T1_NANOS] = 123456789, [DZ_E_SYNC] = 1 << 20, [DZ_E_FOLLOW] = 3 << 18,
+        [DZ_E_T2_SECONDS] = 1700000000, [DZ_E_T2_NANOS] = 123999999, [DZ_E_T2_FRACTION] = 4660,
+        [DZ_E_T3_SECONDS] = 1700000000, [DZ_E_T3_NANOS] = 500000000, [DZ_E_T3_FRACTION] = 22136,
+        [DZ_E_T4_SECONDS] = 1700000000, [DZ_E_T4_NANOS] = 500500500, [DZ_E_RESP] = 1 << 19,
+        [DZ_E_MASTER_TX] = 230000000000, [DZ_E_MASTER_RX] = 240000000000, [DZ_E_SLAVE_TX] = 250000000000, [DZ_E_SLAVE_RX] = 260000000000, [DZ_E_ASYMMETRY] = 1 << 20,
+    };
+    __builtin_memcpy(m->exchange, exchange, sizeof exchange);
+}
+
+/* ---- the rows ------------------------------------------------------------------------------------------------------------------ */
+
+/* A call of any kind; what it takes is known where it is made. */
+typedef void any_call(void);
+#define CALL(call, ...) ((__typeof__(dz_##call) *)f)(__VA_ARGS__)
+
+static dz_answer read(struct lent *m, any_call *f, uint64_t i) { return (void)i, CALL(read, m->announce, m->length, magic, m->message, m->tail); }
+static dz_answer look_up(struct lent *m, any_call *f, uint64_t i) { return (void)i, CALL(lookup, m->announce, m->length, 3, magic, m->found); }
+static dz_answer write(struct lent *m, any_call *f, uint64_t i) { return (void)i, CALL(write, m->out, ROOM, m->message, m->suffix, DZ_SUFFIX_OCTETS, magic, &m->written); }
+static dz_answer take(struct lent *m, any_call *f, uint64_t t) { return CALL(take, m->ports, PORT, t, m->announce, m->length, 0, own_clock, magic); }
+static dz_answer take_one(struct lent *m, any_call *f, uint64_t i) { return rename(m, 0, (uint16_t)i), take(m, f, second + i); }
+static dz_answer take_sixteen(struct lent *m, any_call *f, uint64_t i) { return rename(m, i % DZ_SLOTS, (uint16_t)i), take(m, f, second + i); }
+static dz_answer take_new(struct lent *m, any_call *f, uint64_t i) { return rename(m, 1000000 + (uint32_t)i, (uint16_t)i), take(m, f, 2 * second + i); }
+static dz_answer best(struct lent *m, any_call *f, uint64_t i) { return (void)i, CALL(best, m->ports, PORT, 2 * second, m->found); }
+static dz_answer compare(struct lent *m, any_call *f, uint64_t i) { return (void)i, CALL(compare, m->set, m->rival, &m->answer); }
+static dz_answer merge(struct lent *m, any_call *f, uint64_t i) { return (void)i, CALL(merge, m->a, m->b, m->list); }
+static dz_answer rank(struct lent *m, any_call *f, uint64_t i) { return (void)i, CALL(rank, m->run, RUN, m->list); }
+static dz_answer decide_all(struct lent *m, any_call *f, uint64_t i) { return (void)i, CALL(decide_all, m->ports, 2 * second, m->own, m->decisions, m->list); }
+static dz_answer measure(struct lent *m, any_call *f, uint64_t i) { return (void)i, CALL(measure, m->exchange, m->measured); }
+
+static dz_answer link_take(struct lent *m, any_call *f, uint64_t i)
+{
+    const size_t each = DZ_LINKS_WORDS / DZ_PORTS, at = (PORT - 1) * each;
+    (void)i;
+    __builtin_memcpy(m->links + at, m->before + at, each * sizeof *m->links);
+    return CALL(link_take, m->links, PORT, DZ_LINK_LOCK, m->step);
+}
+
+enum { OURS, HAND, NOTHING };
+#define BOTH(call) {(any_call *)dz_##call, (any_call *)c_##call}
+static const struct row {
+    const char *name;
+    any_call *calls[2];
+    void (*prepare)(struct lent *);
+    dz_answer (*turn)(struct lent *, any_call *, uint64_t);
+    dz_answer answer;
+} rows[] = {
+    {"read", BOTH(read), plain, read, DZ_OK},
+    {"read-suffix", BOTH(read), with_suffix, read, DZ_OK},
+    {"lookup", BOTH(lookup), with_suffix, look_up, DZ_OK},
+    {"take-1", BOTH(take), plain, take_one, DZ_OK},
+    {"take-16", BOTH(take), plain, take_sixteen, DZ_OK},
+    {"full", BOTH(take), full_port, take_new, DZ_REFUSED_FULL},
+    {"flooded", BOTH(take), flooded_port, take_new, DZ_REFUSED_FULL},
+    {"write", BOTH(write), plain, write, DZ_OK},
+    {"best", BOTH(best), full_port, best, DZ_OK},
+    {"compare-priority1", BOTH(compare), by_priority1, compare, DZ_OK},
+    {"compare-identity", BOTH(compare), by_identity, compare, DZ_OK},
+    {"compare-topology", BOTH(compare), by_topology, compare, DZ_OK},
+    {"merge", BOTH(merge), two_lists, merge, DZ_OK},
+    {"rank", BOTH(rank), long_run, rank, DZ_OK},
+    {"decide-1", BOTH(decide_all), one_a_port, decide_all, DZ_OK},
+    {"decide-16", BOTH(decide_all), sixteen_a_port, decide_all, DZ_OK},
+    {"link", BOTH(link_take), slave_present, link_take, DZ_OK},
+    {"measure", BOTH(measure), typical_exchange, measure, DZ_OK},
+};
+
+/* Not looked into, so that its arguments are handed over though it has no use for them. */
+static __attribute__((noinline)) dz_answer nothing(void)
+{
+    __asm__ volatile("");
+    return DZ_OK;
+}
+
+/* Some turns of one side; which one it is the compiler is not to know. */
+static void turn(const struct row *row, int side, struct lent *m, uint64_t turns)
+{
+    any_call *f = side == NOTHING ? (any_call *)nothing : row->calls[side];
+    dz_answer answer = side == NOTHING ? DZ_OK : row->answer;
+    __asm__ volatile("" : "+r"(f));
+    for (uint64_t i = 0; i < turns; i++)
+        if (row->turn(m, f, i) != answer) leave(2);
+}
+
+/* After each turn both have answered the same, and all that was lent to them holds the same words. */
+static void same(const struct row *row)
+{
+    lent[OURS] = lent[HAND] = fresh;
+    for (uint64_t i = 0; i < 3 * DZ_SLOTS; i++) {
+        if (row->turn(&lent[OURS], row->calls[OURS], i) != row->answer || row->turn(&lent[HAND], row->calls[HAND], i) != row->answer) leave(1);
+        for (size_t k = 0; k < sizeof fresh; k++)
+            if (((uint8_t *)&lent[OURS])[k] != ((uint8_t *)&lent[HAND])[k]) leave(1);
+    }
+}
+
+static uint64_t nanoseconds_of(const struct row *row, int side, uint64_t turns)
+{
+    uint64_t begun;
+    lent[OURS] = fresh;
+    begun = nanoseconds();
+    turn(row, side, &lent[OURS], turns);
+    return nanoseconds() - begun;
+}
+
+/* The least of several runs of some milliseconds, the sides in turn. */
+static void time(const struct row *row)
+{
+    uint64_t least[3] = {UINT64_MAX, UINT64_MAX, UINT64_MAX}, turns = DZ_SLOTS;
+    while (nanoseconds_of(row, OURS, turns) < 2000000) turns *= 2;
+    for (int again = 0; again < 15; again++)
+        for (int side = OURS; side <= NOTHING; side++) {
+            uint64_t took = nanoseconds_of(row, side, turns);
+            if (took < least[side]) least[side] = took;
+        }
+    for (int side = OURS; side <= HAND; side++) {
+        uint64_t tenths = (least[side] - least[NOTHING]) * 10 / turns;
+        print_number(tenths / 10, '.');
+        print_number(tenths % 10, side == OURS ? ' ' : '\n');
+    }
+}
+
+/* A full port refuses 100,000 new names less one. */
+static void flood(void)
+{
+    full_port(&fresh);
+    for (uint64_t i = 0; i < 99999; i++)
+        if (take_new(&fresh, (any_call *)dz_take, i) != DZ_REFUSED_FULL) leave(2);
+    system_call(1, 1, fresh.ports, sizeof fresh.ports);
+}
+
+static void run(const struct row *row, int count, char **arguments)
+{
+    static const char *const sides[] = {"ours", "hand", "nothing"};
+    row->prepare(&fresh);
+    if (is_same_text(arguments[2], "same")) same(row);
+    else if (is_same_text(arguments[2], "time")) time(row);
+    else
+        for (int side = OURS; side <= NOTHING; side++)
+            if (count == 4 && is_same_text(arguments[2], sides[side])) turn(row, side, &fresh, number_of(arguments[3]));
+}
+
+/* The stack at the start: how many arguments, then these. */
+__attribute__((noreturn, used)) static void begin(long *stack)
+{
+    int count = (int)stack[0];
+    char **arguments = (char **)(stack + 1);
+    if (count == 2 && is_same_text(arguments[1], "flood")) flood(), leave(0);
+    for (size_t i = 0; count > 2 && i < sizeof rows / sizeof *rows; i++)
+        if (is_same_text(arguments[1], rows[i].name)) run(&rows[i], count, arguments), leave(0);
+    leave(2);
+}
+
+__asm__(".globl _start\n_start: mov %rsp, %rdi\nand $-16, %rsp\ncall begin\n");

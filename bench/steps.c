@@ -1,4 +1,4 @@
-/* steps PROGRAM: how many instructions it executes, counted one by one. For x86-64. */
+/* steps PROGRAM ARGUMENTS..: how many instructions it executes, counted one by one. For x86-64. */
 #include <signal.h>
 #include <stdio.h>
 #include <sys/ptrace.h>
@@ -10,11 +10,11 @@ int main(int argc, char **argv)
     long steps = 0;
     int status;
     pid_t child;
-    if (argc != 2) return 2;
+    if (argc < 2) return 2;
     child = fork();
     if (child == 0) {
         ptrace(PTRACE_TRACEME, 0, 0, 0);
-        execl(argv[1], argv[1], (char *)0);
+        execv(argv[1], argv + 1);
         _exit(127);
     }
     waitpid(child, &status, 0);

@@ -1,126 +1,211 @@
-/* A host in C drives a small clock through include/dzervolat.h. `examples/host` proves and builds the engine, builds this, runs it
-   and compares what it prints with examples/host.txt. */
+/* A host in C drives a small clock through include/dzervolat.h. `examples/host` builds it with the library, runs it and compares
+   what it prints with examples/host.txt. */
 #include "dzervolat.h"
 
+#include <inttypes.h>
 #include <stdio.h>
+#include <string.h>
 
 static uint64_t ports[DZ_PORTS_WORDS]; /* zeroed: a fresh clock */
-static uint64_t links[DZ_LINKS_WORDS]; /* zeroed: eighteen fresh links */
+static uint64_t links[DZ_LINKS_WORDS]; /* zeroed: eighteen links in IDLE */
 
-static const uint64_t clock_identity = 0x00B0AEFFFE000001;
+static const uint64_t our_clock = 0x00B0AEFFFE000001;
+static const uint64_t master_a = 0x00B0AEFFFE0000AA;
+static const uint64_t master_b = 0x00B0AEFFFE0000BB;
 static const uint64_t second = 1000000000;
+static const uint8_t domain = 0;
 static const uint16_t magic = DZ_EXAMPLE_MAGIC;
 
-/* An Announce of a grandmaster at class 6, with wrFlags 5, written into octets. */
+/* An Announce of a grandmaster at class 6, a calibrated White Rabbit master, written into octets. */
 static size_t announce(uint8_t out[128], uint64_t sender, uint16_t sequence, uint8_t priority1)
 {
-    uint64_t m[DZ_MESSAGE_WORDS] = {0}, written[1];
-    uint8_t tail[14];
-    m[DZ_M_TYPE] = DZ_ANNOUNCE;
-    m[DZ_M_CLOCK] = sender;
-    m[DZ_M_PORT] = 1;
-    m[DZ_M_SEQUENCE] = sequence;
-    m[DZ_M_INTERVAL] = (uint64_t)-1;
-    m[DZ_M_SECONDS] = 1700000000;
-    m[DZ_M_UTC] = 37;
-    m[DZ_M_PRIORITY1] = priority1;
-    m[DZ_M_CLASS] = 6;
-    m[DZ_M_ACCURACY] = 0x21;
-    m[DZ_M_VARIANCE] = 0x4E5D;
-    m[DZ_M_PRIORITY2] = 128;
-    m[DZ_M_GRANDMASTER] = sender;
-    m[DZ_M_SOURCE] = 0x20;
-    dz_write_suffix(5, magic, tail);
-    return dz_write(out, 128, m, tail, sizeof tail, magic, written) == DZ_OK ? written[0] : 0;
+    const uint64_t message[DZ_MESSAGE_WORDS] = {
+        [DZ_M_TYPE] = DZ_ANNOUNCE,
+        [DZ_M_CLOCK] = sender,
+        [DZ_M_PORT] = 1,
+        [DZ_M_SEQUENCE] = sequence,
+        [DZ_M_INTERVAL] = (uint64_t)(int64_t)-1,
+        [DZ_M_SECONDS] = 1700000000,
+        [DZ_M_UTC] = 37,
+        [DZ_M_PRIORITY1] = priority1,
+        [DZ_M_CLASS] = 6,
+        [DZ_M_ACCURACY] = 0x21,
+        [DZ_M_VARIANCE] = 0x4E5D,
+        [DZ_M_PRIORITY2] = 128,
+        [DZ_M_GRANDMASTER] = sender,
+        [DZ_M_SOURCE] = 0x20,
+    };
+    uint8_t suffix[DZ_SUFFIX_OCTETS];
+    uint64_t written;
+    dz_write_suffix(DZ_CONFIG_MASTER | DZ_WRFLAGS_CALIBRATED, magic, suffix);
+    return dz_write(out, 128, message, suffix, sizeof suffix, magic, &written) == DZ_OK ? (size_t)written : 0;
 }
 
-/* The first of a list, or of what was found. */
-static void show(const char *what, const uint64_t *c)
+/* An Announce arrives: what taking it answers, as text. */
+static const char *arrives(uint64_t port, uint64_t time, uint64_t sender, uint16_t sequence, uint8_t priority1)
 {
-    printf("%s: priority1 %lu, grandmaster %016lx, port %lu, wrFlags %lu\n", what, c[DZ_C_PRIORITY1], c[DZ_C_GRANDMASTER], c[DZ_C_PORT], c[DZ_C_WRFLAGS]);
+    uint8_t octets[128];
+    size_t length = announce(octets, sender, sequence, priority1);
+    return dz_refusal_text(dz_take(ports, port, time, octets, length, domain, our_clock, magic));
+}
+
+static void show(const char *what, const uint64_t candidate[DZ_CANDIDATE_WORDS])
+{
+    printf("%s: priority1 %" PRIu64 ", grandmaster %016" PRIx64 ", port %" PRIu64 ", wrFlags %" PRIu64 "\n", what, candidate[DZ_C_PRIORITY1],
+        candidate[DZ_C_GRANDMASTER], candidate[DZ_C_PORT], candidate[DZ_C_WRFLAGS]);
+}
+
+/* Port 3 has an interval of two seconds; 2^5 is too long, and port 19 is none. Two Announces of one sender make it a candidate; the
+   same again is stale, an earlier time goes backward. */
+static void senders(void)
+{
+    uint64_t found[DZ_FOUND_WORDS], status[DZ_STATUS_WORDS], record[DZ_RECORD_WORDS];
+    printf("interval of port 3: %s", dz_refusal_text(dz_set_interval(ports, 3, 1)));
+    printf(", of 2^5 s: %s", dz_refusal_text(dz_set_interval(ports, 3, 5)));
+    printf(", of port 19: %s\n", dz_refusal_text(dz_set_interval(ports, 19, 1)));
+
+    printf("first Announce: %s", arrives(3, 1 * second, master_a, 1, 128));
+    dz_best(ports, 3, 1 * second, found);
+    printf(", a candidate: %s\n", found[DZ_FOUND] ? "yes" : "not yet");
+    printf("second: %s", arrives(3, 3 * second, master_a, 2, 128));
+    printf(", again: %s", arrives(3, 3 * second, master_a, 2, 128));
+    printf(", earlier: %s\n", arrives(3, 2 * second, master_a, 3, 128));
+
+    dz_status(ports, 3, status);
+    printf("port 3: last time %" PRIu64 " s, interval 2^%" PRId64 " s\n", status[DZ_STATUS_LAST] / second, (int64_t)status[DZ_STATUS_INTERVAL]);
+    dz_record(ports, 3, 0, record);
+    printf("slot 0: sender %016" PRIx64 ", sequenceId %" PRIu64 ", receipts %" PRIu64 "\n", record[DZ_R_SENDER_CLOCK], record[DZ_R_SEQUENCE], record[DZ_R_RECEIPTS]);
+    for (size_t slot = 0; slot < DZ_SLOTS; slot++)
+        if (dz_candidate(ports, 3, slot, 4 * second, found) == DZ_OK && found[DZ_FOUND]) show("candidate", found + DZ_FOUND_CANDIDATE);
+}
+
+/* A candidate as a data set that we received on its port. */
+static void received(uint64_t set[DZ_SET_WORDS], const uint64_t candidate[DZ_CANDIDATE_WORDS])
+{
+    memcpy(set, candidate, DZ_S_RECEIVER_CLOCK * sizeof *set);
+    set[DZ_S_RECEIVER_CLOCK] = our_clock;
+    set[DZ_S_RECEIVER_PORT] = candidate[DZ_C_PORT];
+}
+
+/* A better master on port 7. Each of two cards ranks what its own ports hear, and the lists are merged; then three ports are decided, by our own
+   quality, that list and each port's best. */
+static void two_cards(void)
+{
+    const uint64_t own[DZ_OWN_WORDS] = DZ_OWN_DEFAULT(our_clock);
+    const uint64_t none[DZ_FOUND_WORDS] = {0};
+    uint64_t best3[DZ_FOUND_WORDS], best7[DZ_FOUND_WORDS], here[DZ_LIST_WORDS], there[DZ_LIST_WORDS], list[DZ_LIST_WORDS];
+    uint64_t a[DZ_SET_WORDS], b[DZ_SET_WORDS], comparison, decision;
+    for (uint16_t sequence = 1; sequence <= 2; sequence++) arrives(7, 4 * second, master_b, sequence, 100);
+    dz_best(ports, 3, 4 * second, best3);
+    dz_best(ports, 7, 4 * second, best7);
+    received(a, best3 + DZ_FOUND_CANDIDATE);
+    received(b, best7 + DZ_FOUND_CANDIDATE);
+    dz_compare(a, b, &comparison);
+    printf("port 3's best against port 7's: %s\n", dz_comparison_text(comparison));
+
+    printf("rank: %s", dz_refusal_text(dz_rank(best3 + DZ_FOUND_CANDIDATE, 1, here)));
+    printf(" %s", dz_refusal_text(dz_rank(best7 + DZ_FOUND_CANDIDATE, 1, there)));
+    printf(", merge: %s\n", dz_refusal_text(dz_merge(here, there, list)));
+    for (uint64_t i = 0; i < list[DZ_LIST_COUNT]; i++) show("ranked", list + DZ_LIST_AT(i));
+
+    dz_decide(own, list, 7, best7, &decision);
+    printf("port 7: %s", dz_decision_text(decision));
+    dz_decide(own, list, 3, best3, &decision);
+    printf(", port 3: %s", dz_decision_text(decision));
+    dz_decide(own, list, 5, none, &decision);
+    printf(", port 5: %s\n", dz_decision_text(decision));
+}
+
+/* All eighteen ports in one call, and whom the clock follows. */
+static void every_port(void)
+{
+    const uint64_t own[DZ_OWN_WORDS] = DZ_OWN_DEFAULT(our_clock);
+    uint8_t decisions[DZ_PORTS];
+    uint64_t list[DZ_LIST_WORDS], parent[DZ_FOUND_WORDS];
+    printf("all ports: %s,", dz_refusal_text(dz_decide_all(ports, 4 * second, own, decisions, list)));
+    for (int p = 1; p <= DZ_PORTS; p++) printf(" %s", dz_decision_text(decisions[p - 1]));
+    printf("\n");
+    dz_parent(own, list, parent);
+    if (parent[DZ_FOUND]) show("parent", parent + DZ_FOUND_CANDIDATE);
+}
+
+/* What was written is read back; cut in half, or of PTP version 1, it is refused. */
+static void reading(void)
+{
+    uint8_t octets[128];
+    uint64_t message[DZ_MESSAGE_WORDS], tail[DZ_TAIL_WORDS], found[DZ_FOUND_WRFLAGS_WORDS];
+    size_t length = announce(octets, master_a, 3, 128);
+    printf("read: %s", dz_refusal_text(dz_read(octets, length, magic, message, tail)));
+    printf(", sequenceId %" PRIu64 ", interval %" PRId64 ", tail of %" PRIu64 " at %" PRIu64 "\n", message[DZ_M_SEQUENCE], (int64_t)message[DZ_M_INTERVAL],
+        tail[DZ_TAIL_LENGTH], tail[DZ_TAIL_AT]);
+    dz_suffix(octets, length, magic, found);
+    printf("suffix: config %" PRIu64 ", calibrated: %s, mode on: %s\n", found[DZ_FOUND_WRFLAGS] & DZ_WRFLAGS_CONFIG,
+        found[DZ_FOUND_WRFLAGS] & DZ_WRFLAGS_CALIBRATED ? "yes" : "no", found[DZ_FOUND_WRFLAGS] & DZ_WRFLAGS_MODE_ON ? "yes" : "no");
+    printf("half of it: %s", dz_refusal_text(dz_read(octets, length / 2, magic, message, tail)));
+    octets[1] = 1;
+    printf(", of version 1: %s\n", dz_refusal_text(dz_read(octets, length, magic, message, tail)));
+}
+
+static void show_link(const char *what, const uint64_t step[DZ_STEP_WORDS])
+{
+    printf("%s: %s as %s, retries %" PRIu64, what, dz_state_text(step[DZ_T_STATE]), step[DZ_T_ROLE] == DZ_ROLE_SLAVE ? "slave" : "master", step[DZ_T_RETRIES]);
+    if (step[DZ_T_SENDS]) printf(", sends %" PRIx64, step[DZ_T_FIRST + DZ_L_NUMBER]);
+    printf("\n");
+}
+
+/* Port 7 is a White Rabbit slave: a start sends SLAVE_PRESENT, in a Signaling. */
+static void linking(void)
+{
+    const uint64_t signaling[DZ_MESSAGE_WORDS] = {
+        [DZ_M_TYPE] = DZ_SIGNALING,
+        [DZ_M_CLOCK] = our_clock,
+        [DZ_M_PORT] = 7,
+        [DZ_M_SEQUENCE] = 1,
+        [DZ_M_INTERVAL] = 0x7F,
+        [DZ_M_TARGET_CLOCK] = master_b,
+        [DZ_M_TARGET_PORT] = 1,
+    };
+    uint8_t octets[128];
+    uint64_t step[DZ_STEP_WORDS], written = 0;
+    dz_link_set(links, 7, DZ_CONFIG_SLAVE, 1, 3, 1000, 230000, 240000);
+    dz_link_start(links, 7, DZ_CONFIG_MASTER, 0, step);
+    show_link("start", step);
+    printf("Signaling: %s", dz_refusal_text(dz_write_link(octets, sizeof octets, signaling, step + DZ_T_FIRST, magic, &written)));
+    printf(", %" PRIu64 " octets\n", written);
+    dz_link_timeout(links, 7, step);
+    show_link("on a timeout", step);
+    dz_link_take(links, 7, DZ_LINK_LOCK, step);
+    show_link("on LOCK", step);
+    dz_link_status(links, 7, step);
+    show_link("link of port 7", step);
+}
+
+/* An exchange: 500 ns there, 500 ns back, and our clock 10 ns ahead. */
+static void measuring(void)
+{
+    const uint64_t exchange[DZ_EXCHANGE_WORDS] = {
+        [DZ_E_T1_SECONDS] = 1700000000, [DZ_E_T1_NANOS] = 0,
+        [DZ_E_T2_SECONDS] = 1700000000, [DZ_E_T2_NANOS] = 510,
+        [DZ_E_T3_SECONDS] = 1700000000, [DZ_E_T3_NANOS] = 1000510,
+        [DZ_E_T4_SECONDS] = 1700000000, [DZ_E_T4_NANOS] = 1001000,
+    };
+    uint64_t measured[DZ_MEASURED_WORDS];
+    printf("measure: %s", dz_refusal_text(dz_measure(exchange, measured)));
+    printf(", delay %" PRId64 " ns, offset %" PRId64 " s and %" PRIu64 " ns\n", (int64_t)measured[DZ_D_DELAY] / 65536, (int64_t)measured[DZ_D_SECONDS],
+        measured[DZ_D_REST] / 65536);
 }
 
 int main(void)
 {
-    static const char *const decisions[] = {"", "M1", "M2", "M3", "S1", "S2", "P1", "P2"};
-    uint8_t octets[128];
-    uint64_t found[DZ_FOUND_WORDS], other[DZ_FOUND_WORDS], none[DZ_FOUND_WORDS] = {0}, status[2], decision[1];
-    uint64_t run[DZ_CANDIDATE_WORDS], here[DZ_LIST_WORDS], there[DZ_LIST_WORDS], list[DZ_LIST_WORDS];
-    uint64_t message[DZ_MESSAGE_WORDS], tail[2], step[DZ_STEP_WORDS], measured[3];
-    size_t length;
-
-    /* an interval: two seconds on port 3; 2^5 is too long, and port 19 is none */
-    printf("interval: %u %u %u\n", dz_set_interval(ports, 3, 1), dz_set_interval(ports, 3, 5), dz_set_interval(ports, 19, 1));
-
-    /* two Announces of one sender on port 3 make it a candidate; the same again is stale, an earlier time is backward */
-    length = announce(octets, 0x00B0AEFFFE0000AA, 1, 128);
-    printf("first Announce: %u\n", dz_take(ports, 3, 1 * second, octets, length, 0, clock_identity, magic));
-    dz_best(ports, 3, 1 * second, found);
-    printf("candidates yet: %lu\n", found[0]);
-    length = announce(octets, 0x00B0AEFFFE0000AA, 2, 128);
-    printf("second: %u", dz_take(ports, 3, 3 * second, octets, length, 0, clock_identity, magic));
-    printf(", again: %u", dz_take(ports, 3, 3 * second, octets, length, 0, clock_identity, magic));
-    printf(", earlier: %u\n", dz_take(ports, 3, 2 * second, octets, length, 0, clock_identity, magic));
-    dz_status(ports, 3, status);
-    printf("port 3: last time %lu s, interval 2^%ld s\n", status[0] / second, (long)status[1]);
-
-    /* the candidates of the port, slot by slot, and the best of them */
-    for (size_t slot = 0; slot < 16; slot++)
-        if (dz_candidate(ports, 3, slot, 4 * second, found) == DZ_OK && found[0]) show("candidate", found + 1);
-    dz_best(ports, 3, 4 * second, found);
-    show("best of port 3", found + 1);
-
-    /* a better one on port 7, from another card: each card ranks its own, and the lists are merged */
-    for (uint16_t sequence = 1; sequence <= 2; sequence++) {
-        length = announce(octets, 0x00B0AEFFFE0000BB, sequence, 100);
-        dz_take(ports, 7, 4 * second, octets, length, 0, clock_identity, magic);
+    if (dz_version() != DZ_VERSION) {
+        printf("the library has version %" PRIu64 ", the header %d\n", dz_version(), DZ_VERSION);
+        return 1;
     }
-    dz_best(ports, 7, 4 * second, other);
-    for (int i = 0; i < DZ_CANDIDATE_WORDS; i++) run[i] = found[1 + i];
-    printf("rank: %u", dz_rank(run, DZ_CANDIDATE_WORDS, here));
-    for (int i = 0; i < DZ_CANDIDATE_WORDS; i++) run[i] = other[1 + i];
-    printf(" %u", dz_rank(run, DZ_CANDIDATE_WORDS, there));
-    printf(", merge: %u\n", dz_merge(here, there, list));
-    printf("ranked: %lu, ", list[0]);
-    show("first", list + 1);
-
-    /* the decision of three ports, by our own quality (class 248: no grandmaster) and each port's best */
-    const uint64_t own[DZ_OWN_WORDS] = {128, 248, 254, 65535, 128, clock_identity};
-    dz_decide(own, list, 7, other, decision);
-    printf("port 7: %s", decisions[decision[0]]);
-    dz_decide(own, list, 3, found, decision);
-    printf(", port 3: %s", decisions[decision[0]]);
-    dz_decide(own, list, 5, none, decision);
-    printf(", port 5: %s\n", decisions[decision[0]]);
-
-    /* all eighteen ports in one call, and whom the clock follows */
-    uint8_t every[18];
-    printf("all ports: %u,", dz_decide_all(ports, 4 * second, own, every, list));
-    for (int p = 1; p <= 18; p++) printf(" %s", decisions[every[p - 1]]);
-    printf("\n");
-    dz_parent(own, list, found);
-    show("parent", found + 1);
-
-    /* what was written is read back; cut in half, or of PTP version 1, it is refused */
-    printf("read: %u", dz_read(octets, length, magic, message, tail));
-    printf(", type %lu, sequenceId %lu, interval %ld, tail of %lu at %lu\n", message[DZ_M_TYPE], message[DZ_M_SEQUENCE], (long)message[DZ_M_INTERVAL], tail[1], tail[0]);
-    printf("half of it: %u", dz_read(octets, length / 2, magic, message, tail));
-    octets[1] = 1;
-    printf(", of version 1: %u\n", dz_read(octets, length, magic, message, tail));
-
-    /* port 7 is a White Rabbit slave: a start sends SLAVE_PRESENT, in a Signaling */
-    dz_link_set(links, 7, 2, 1, 3, 1000, 230000, 240000);
-    printf("start: %u", dz_link_start(links, 7, 1, 0, step));
-    printf(", state %lu, to send: %lu, number %lx\n", step[DZ_T_STATE], step[DZ_T_SENDS], step[DZ_T_FIRST + DZ_L_NUMBER]);
-    uint64_t signaling[DZ_MESSAGE_WORDS] = {DZ_SIGNALING, 0, 0, 0, 0, clock_identity, 7, 1, 0x7F, 0x00B0AEFFFE0000BB, 1}, written[1] = {0};
-    printf("Signaling: %u", dz_write_link(octets, sizeof octets, signaling, step + DZ_T_FIRST, magic, written));
-    printf(", %lu octets\n", written[0]);
-    dz_link_take(links, 7, DZ_LOCK, step);
-    printf("on LOCK: state %lu\n", step[DZ_T_STATE]);
-
-    /* an exchange: 500 ns there, 500 ns back, and our clock 10 ns ahead */
-    const uint64_t exchange[DZ_EXCHANGE_WORDS] = {1700000000, 0, 0, 0, 1700000000, 510, 0, 1700000000, 1000510, 0, 1700000000, 1001000, 0, 0, 0, 0, 0, 0};
-    printf("measure: %u", dz_measure(exchange, measured));
-    printf(", delay %ld ns, offset %ld s and %lu ns\n", (long)measured[0] / 65536, (long)measured[1], measured[2] / 65536);
+    senders();
+    two_cards();
+    every_port();
+    reading();
+    linking();
+    measuring();
     return 0;
 }

@@ -1,29 +1,38 @@
 /* Dzervolat: the engine of an 18-port White Rabbit / PTP boundary clock, as a host written in C calls it.
 
-   The ten lines that a host needs:
+   The ten lines that a host needs (octets, length, port, now and own are the host's; so are steer and follow):
 
-       uint64_t ports[DZ_PORTS_WORDS] = {0};                            // a fresh clock: eighteen ports that heard nothing
+       static uint64_t ports[DZ_PORTS_WORDS];                            // zeroed: a fresh clock, eighteen ports that heard nothing
        uint64_t list[DZ_LIST_WORDS], parent[DZ_FOUND_WORDS];
-       uint8_t decisions[18];
-       dz_take(ports, port, now, octets, length, domain, clock, magic); // each Announce, as it arrives on a port
-       if (dz_decide_all(ports, now, own, decisions, list) == DZ_OK) {  // now and then: what every port is to do
-           dz_parent(own, list, parent);                                // whom the clock follows; the rest of the list are backups
-           for (int p = 1; p <= 18; p++) steer(p, decisions[p - 1]);    // DZ_M1 .. DZ_P2
-           if (parent[0]) follow(parent[1 + DZ_C_PORT]);                // the port to measure delay and offset on (dz_measure)
+       uint8_t decisions[DZ_PORTS];
+       dz_take(ports, port, now, octets, length, domain, clock, magic);  // each Announce, as it arrives on a port
+       if (dz_decide_all(ports, now, own, decisions, list) == DZ_OK) {   // now and then: what every port is to do
+           dz_parent(own, list, parent);                                 // whom the clock follows; the rest of the list are backups
+           for (int p = 1; p <= DZ_PORTS; p++) steer(p, decisions[p - 1]);
+           if (parent[DZ_FOUND]) follow(parent[DZ_FOUND_CANDIDATE + DZ_C_PORT]);
        }
 
-   Every call returns 0, or the number of its refusal (enum dz_refusal); then nothing that was lent to it has changed. No call keeps
-   a pointer, allocates, waits or reads a clock: the state is in words that the host lends, two calls on different state may run at
-   the same time, and the answers follow from what is lent alone. The state is plain memory: zeroed it is fresh, a copy of it is a
-   snapshot, and any words at all have an answer.
+   Every call returns a dz_answer: DZ_OK, or the number of its refusal (enum dz_refusal); then nothing that was lent to it has changed.
+   No call keeps a pointer, allocates, waits or reads a clock: the state is in words that the host lends, and the answers follow from what is
+   lent alone. The state is plain memory: zeroed it is fresh, a copy of it is a snapshot, and any words at all have an answer.
 
    What is lent
-   - A pointer points to as many words or octets as its array says, or as the size_t beside it says. It is never NULL, not even
-     where there are 0 octets. What a call may change (no const) overlaps nothing else that is lent to the same call.
-   - A word that the host fills in is taken modulo the width of its field (the comments give the widths), but for messages
-     to be written, where a number that does not fit is refused with DZ_FIELD.
+   - A pointer points to as many words or octets as its array says, or as the size_t beside it says. It is never NULL, not even where there are 0
+     octets, and words lie at their natural alignment: the compiler of the library was told both, and may have made use of it. For no octets,
+     lend the address of anything.
+   - What a call may change (no const) overlaps nothing else that is lent to the same call, for the same reason: dz_merge into one of its own two
+     lists needs a copy of it. What it does not change may overlap as it likes: dz_merge(a, a, out) is fine.
+   - No number is cut. A word that its field cannot hold (the comments give the widths) is refused: a port that is none of 1 to 18 with
+     DZ_REFUSED_PORT, a number of an exchange with DZ_REFUSED_RANGE, any other with DZ_REFUSED_FIELD, after the refusals that the call itself
+     names; a port in a ranked list belongs to what makes it one (DZ_REFUSED_UNRANKED). Arguments other than ports have the C type of
+     their field, and what C's own conversion makes of a wider number is all that arrives (-Wconversion tells).
    - Signed numbers in words are their two's complement: (uint64_t)(int64_t)x, and back by (int64_t)w.
-   - The library is for x86-64 Linux: `rt staticlib clock` writes target/staticlib/libclock.a. */
+
+   At the same time: calls to which the same state is lent as const may run together. A call that may change it runs alone on that state. Calls on
+   different state do not know of each other.
+
+   To link: libdzervolat.a, and the C library's memcpy and memset, which a freestanding host provides. It has no variables and needs no
+   initialisation; C++ may include this header. */
 #ifndef DZERVOLAT_H
 #define DZERVOLAT_H
 
@@ -34,31 +43,79 @@
 extern "C" {
 #endif
 
+/* Rises whenever a call, a constant, a place in words or the meaning of one changes; within one number all of it stays. A host compiled with one
+   number must not run with a library of another: dz_version() == DZ_VERSION is worth a test at start. State that was kept from a library of another
+   number is no longer state. */
+#define DZ_VERSION 1
+
+/* What every call returns: 0, or the number of its refusal. It is 64 bits wide on every processor. */
+typedef uint64_t dz_answer;
+
+/* The number of the library that is linked. It refuses nothing and its answer is no refusal. */
+uint64_t dz_version(void);
+
 /* The numbers that refuse. */
 enum dz_refusal {
     DZ_OK = 0,
-    DZ_SHORT = 1,     /* fewer than 34 octets lent, or messageLength exceeds those lent */
-    DZ_VERSION = 2,   /* versionPTP is not 2 */
-    DZ_TYPE = 3,      /* a message of another type, or a Follow_Up that is not its Sync's */
-    DZ_LENGTH = 4,    /* messageLength below the type's fixed size */
-    DZ_STAMP = 5,     /* a timestamp's nanoseconds are 1,000,000,000 or more */
-    DZ_TLV = 6,       /* the tail is not whole TLVs of even length */
-    DZ_WRBAD = 7,     /* a known White Rabbit message with a wrong data size */
-    DZ_PORT = 8,      /* port outside 1 to 18 */
-    DZ_DOMAIN = 9,    /* domainNumber is not the set one */
-    DZ_OWN = 10,      /* the sender's clockIdentity is our own */
-    DZ_BACKWARD = 11, /* time below this port's last accepted time */
-    DZ_STALE = 12,    /* a live sender, and its sequenceId is not newer */
-    DZ_FULL = 13,     /* a new sender, and 16 live records on the port */
-    DZ_RANGE = 14,    /* a number outside a limit of delay and offset */
-    DZ_UNRANKED = 15, /* a list to merge or decide by is not a ranked list */
-    DZ_ROOM = 16,     /* output buffer smaller than the message */
-    DZ_MANY = 17,     /* more than 288 candidates */
-    DZ_FIELD = 18     /* a value to write does not fit its field or would be refused when read, a length past 65,535, a setting out of range */
+    DZ_REFUSED_SHORT = 1,     /* fewer than 34 octets lent, or messageLength exceeds those lent */
+    DZ_REFUSED_VERSION = 2,   /* versionPTP is not 2 */
+    DZ_REFUSED_TYPE = 3,      /* a message of another type, or a Follow_Up that is not its Sync's */
+    DZ_REFUSED_LENGTH = 4,    /* messageLength below the type's fixed size */
+    DZ_REFUSED_STAMP = 5,     /* a timestamp's nanoseconds are 1,000,000,000 or more */
+    DZ_REFUSED_TLV = 6,       /* the tail is not whole TLVs of even length */
+    DZ_REFUSED_WRBAD = 7,     /* a known White Rabbit message with a wrong data size */
+    DZ_REFUSED_PORT = 8,      /* port outside 1 to 18 */
+    DZ_REFUSED_DOMAIN = 9,    /* domainNumber is not the set one */
+    DZ_REFUSED_OWN = 10,      /* the sender's clockIdentity is our own */
+    DZ_REFUSED_BACKWARD = 11, /* time below this port's last accepted time */
+    DZ_REFUSED_STALE = 12,    /* a live sender, and its sequenceId is not newer */
+    DZ_REFUSED_FULL = 13,     /* a new sender, and 16 live records on the port */
+    DZ_REFUSED_RANGE = 14,    /* a number outside a limit of delay and offset */
+    DZ_REFUSED_UNRANKED = 15, /* a list to merge or decide by is not a ranked list */
+    DZ_REFUSED_ROOM = 16,     /* output buffer smaller than the message */
+    DZ_REFUSED_MANY = 17,     /* more than 288 candidates */
+    DZ_REFUSED_FIELD = 18     /* a value does not fit its field, would be refused when read, or a setting is out of range */
 };
+
+#define DZ_PORTS 18 /* numbered from 1 */
+#define DZ_SLOTS 16 /* senders a port, numbered from 0 */
+#define DZ_CANDIDATES (DZ_PORTS * DZ_SLOTS) /* the most that are ranked: 288 */
+
+/* The answer as text, for a log. */
+static inline const char *dz_refusal_text(dz_answer answer)
+{
+    switch (answer) {
+    case DZ_OK: return "OK";
+    case DZ_REFUSED_SHORT: return "SHORT";
+    case DZ_REFUSED_VERSION: return "VERSION";
+    case DZ_REFUSED_TYPE: return "TYPE";
+    case DZ_REFUSED_LENGTH: return "LENGTH";
+    case DZ_REFUSED_STAMP: return "STAMP";
+    case DZ_REFUSED_TLV: return "TLV";
+    case DZ_REFUSED_WRBAD: return "WRBAD";
+    case DZ_REFUSED_PORT: return "PORT";
+    case DZ_REFUSED_DOMAIN: return "DOMAIN";
+    case DZ_REFUSED_OWN: return "OWN";
+    case DZ_REFUSED_BACKWARD: return "BACKWARD";
+    case DZ_REFUSED_STALE: return "STALE";
+    case DZ_REFUSED_FULL: return "FULL";
+    case DZ_REFUSED_RANGE: return "RANGE";
+    case DZ_REFUSED_UNRANKED: return "UNRANKED";
+    case DZ_REFUSED_ROOM: return "ROOM";
+    case DZ_REFUSED_MANY: return "MANY";
+    case DZ_REFUSED_FIELD: return "FIELD";
+    default: return "?";
+    }
+}
 
 /* 001's example magic of White Rabbit's TLVs; the magic is a setting, and calls that look into tails are told it. */
 #define DZ_EXAMPLE_MAGIC 0xABCD
+
+/* The four bits of wrFlags: config (enum dz_config) in the lowest two, then two flags. The rest are reserved: ignored when read, written as zero. */
+enum dz_wrflags { DZ_WRFLAGS_CONFIG = 0x3, DZ_WRFLAGS_CALIBRATED = 0x4, DZ_WRFLAGS_MODE_ON = 0x8 };
+
+/* What a port can be on a White Rabbit link. */
+enum dz_config { DZ_CONFIG_NONE = 0, DZ_CONFIG_MASTER = 1, DZ_CONFIG_SLAVE = 2, DZ_CONFIG_BOTH = 3 };
 
 /* ---- Messages in words --------------------------------------------------------------------------------------------------------- */
 
@@ -68,7 +125,7 @@ enum dz_message {
     DZ_M_TYPE = 0,       /* enum dz_type */
     DZ_M_TRANSPORT = 1,  /* transportSpecific, 0 to 15 */
     DZ_M_DOMAIN = 2,     /* 8 bits */
-    DZ_M_FLAGS = 3,      /* 16 bits, octet 6 in the upper eight: two-step is 0x0200 */
+    DZ_M_FLAGS = 3,      /* 16 bits, octet 6 in the upper eight: two-step is DZ_FLAG_TWO_STEP */
     DZ_M_CORRECTION = 4, /* signed, nanoseconds times 2^16 */
     DZ_M_CLOCK = 5,      /* sourcePortIdentity: clockIdentity .. */
     DZ_M_PORT = 6,       /* .. and port, 16 bits */
@@ -98,6 +155,19 @@ enum dz_message {
 
 enum dz_type { DZ_SYNC = 0x0, DZ_DELAY_REQ = 0x1, DZ_FOLLOW_UP = 0x8, DZ_DELAY_RESP = 0x9, DZ_ANNOUNCE = 0xB, DZ_SIGNALING = 0xC };
 
+/* The two-step bit of a Sync's flags. */
+#define DZ_FLAG_TWO_STEP 0x0200
+
+/* Where a message's tail, its TLVs, begins in the octets, and how many octets it has. */
+enum dz_tail { DZ_TAIL_AT = 0, DZ_TAIL_LENGTH = 1, DZ_TAIL_WORDS = 2 };
+
+/* What looking for something answers: the first word is 1 and the thing follows; all words are 0 where there is none. */
+enum dz_found { DZ_FOUND = 0, DZ_FOUND_CANDIDATE = 1, DZ_FOUND_LINK_MESSAGE = 1, DZ_FOUND_WRFLAGS = 1, DZ_FOUND_DATA_AT = 1, DZ_FOUND_DATA_LENGTH = 2 };
+enum dz_found_words { DZ_FOUND_DATA_WORDS = 3, DZ_FOUND_WRFLAGS_WORDS = 2, DZ_FOUND_LINK_WORDS = 7, DZ_FOUND_WORDS = 12 };
+
+/* A timestamp. */
+enum dz_stamp { DZ_STAMP_SECONDS = 0, DZ_STAMP_NANOS = 1, DZ_STAMP_WORDS = 2 };
+
 /* A link message of White Rabbit is six words; those it does not carry are 0. */
 enum dz_link_message {
     DZ_L_NUMBER = 0,  /* enum dz_link_number */
@@ -109,44 +179,46 @@ enum dz_link_message {
     DZ_LINK_MESSAGE_WORDS = 6
 };
 
-enum dz_link_number { DZ_SLAVE_PRESENT = 0x1000, DZ_LOCK = 0x1001, DZ_LOCKED = 0x1002, DZ_CALIBRATE = 0x1003, DZ_CALIBRATED = 0x1004, DZ_WR_MODE_ON = 0x1005 };
+enum dz_link_number {
+    DZ_LINK_SLAVE_PRESENT = 0x1000,
+    DZ_LINK_LOCK = 0x1001,
+    DZ_LINK_LOCKED = 0x1002,
+    DZ_LINK_CALIBRATE = 0x1003,
+    DZ_LINK_CALIBRATED = 0x1004,
+    DZ_LINK_WR_MODE_ON = 0x1005
+};
 
 /* ---- Reading ------------------------------------------------------------------------------------------------------------------- */
 
-/* Reads a message. Octets past its messageLength are padding. `tail` says where its TLVs begin in `octets` and how many octets they
-   have. Refuses, in this order: 1 (under 34 octets), 2, 3, 4, 1 (messageLength), 5, 6, 7. */
-uint8_t dz_read(const uint8_t *octets, size_t length, uint16_t magic, uint64_t message[DZ_MESSAGE_WORDS], uint64_t tail[2]);
+/* Reads a message. Octets past its messageLength are padding. Refuses, in this order: 1 (under 34 octets), 2, 3, 4, 1 (messageLength), 5, 6, 7. */
+dz_answer dz_read(const uint8_t *octets, size_t length, uint16_t magic, uint64_t message[DZ_MESSAGE_WORDS], uint64_t tail[DZ_TAIL_WORDS]);
 
-/* The first TLV of a type: found[0] is 1, found[1] where its data begin in `octets`, found[2] how many octets they are; all 0 where
-   there is none. Refuses as dz_read. */
-uint8_t dz_lookup(const uint8_t *octets, size_t length, uint16_t type, uint16_t magic, uint64_t found[3]);
+/* The first TLV of a type: where its data begin in `octets` (DZ_FOUND_DATA_AT), and how many octets they are. Refuses as dz_read. */
+dz_answer dz_lookup(const uint8_t *octets, size_t length, uint16_t type, uint16_t magic, uint64_t found[DZ_FOUND_DATA_WORDS]);
 
-/* The White Rabbit suffix of an Announce: found[0] is 1 and found[1] its wrFlags (0 to 15); both 0 where there is none. Refuses as
-   dz_read, then 3 if it is another message. */
-uint8_t dz_suffix(const uint8_t *octets, size_t length, uint16_t magic, uint64_t found[2]);
+/* The White Rabbit suffix of an Announce: its wrFlags, 0 to 15 (DZ_FOUND_WRFLAGS). Refuses as dz_read, then 3 if it is another message. */
+dz_answer dz_suffix(const uint8_t *octets, size_t length, uint16_t magic, uint64_t found[DZ_FOUND_WRFLAGS_WORDS]);
 
-/* The first link message of a Signaling: found[0] is 1, the link message follows; all 0 where there is none. Refuses as dz_read,
-   then 3 if it is another message. */
-uint8_t dz_link_message(const uint8_t *octets, size_t length, uint16_t magic, uint64_t found[1 + DZ_LINK_MESSAGE_WORDS]);
+/* The first link message of a Signaling (from DZ_FOUND_LINK_MESSAGE on). Refuses as dz_read, then 3 if it is another message. */
+dz_answer dz_link_message(const uint8_t *octets, size_t length, uint16_t magic, uint64_t found[DZ_FOUND_LINK_WORDS]);
 
-/* The origin time of a Sync, seconds and nanoseconds: that of its Follow_Up where the Sync is two-step, else its own, and then the
-   Follow_Up is not looked at. Refuses as dz_read of the Sync, 3 if it is none; then the same of the Follow_Up, and 3 last where sender,
-   domain or sequenceId differ. */
-uint8_t dz_origin(const uint8_t *sync, size_t sync_length, const uint8_t *follow, size_t follow_length, uint16_t magic, uint64_t stamp[2]);
+/* The origin time of a Sync: that of its Follow_Up where the Sync is two-step, else its own, and then the Follow_Up is not looked at. Refuses as
+   dz_read of the Sync, 3 if it is none; then the same of the Follow_Up, and 3 last where sender, domain or sequenceId differ. */
+dz_answer dz_origin(const uint8_t *sync, size_t sync_length, const uint8_t *follow, size_t follow_length, uint16_t magic, uint64_t stamp[DZ_STAMP_WORDS]);
 
 /* ---- Writing ------------------------------------------------------------------------------------------------------------------- */
 
-/* Writes a message and its tail to the front of `out`; written[0] is how many octets. Octets past them stay as they were.
+/* Writes a message and its tail to the front of `out`; *written is how many octets. Octets past them stay as they were.
    Refuses 18 where a word does not fit its field, a type is not listed, a timestamp is out of form, the
    tail would be refused when read, or the length would pass 65,535; then 16. */
-uint8_t dz_write(uint8_t *out, size_t room, const uint64_t message[DZ_MESSAGE_WORDS], const uint8_t *tail, size_t tail_length, uint16_t magic, uint64_t written[1]);
+dz_answer dz_write(uint8_t *out, size_t room, const uint64_t message[DZ_MESSAGE_WORDS], const uint8_t *tail, size_t tail_length, uint16_t magic, uint64_t *written);
 
-/* Writes a Signaling (its twenty words, type 12) with one link message. Refuses as dz_write, and 18 for words that are no Signaling
-   or no link message. */
-uint8_t dz_write_link(uint8_t *out, size_t room, const uint64_t message[DZ_MESSAGE_WORDS], const uint64_t link[DZ_LINK_MESSAGE_WORDS], uint16_t magic, uint64_t written[1]);
+/* Writes a Signaling (its twenty words) with one link message. Refuses as dz_write, and 18 for words that are no Signaling or no link message. */
+dz_answer dz_write_link(uint8_t *out, size_t room, const uint64_t message[DZ_MESSAGE_WORDS], const uint64_t link[DZ_LINK_MESSAGE_WORDS], uint16_t magic, uint64_t *written);
 
-/* The suffix of an Announce, fourteen octets to be its tail, or a part of it. Of wrFlags the lowest four bits are written. */
-uint8_t dz_write_suffix(uint16_t flags, uint16_t magic, uint8_t tail[14]);
+/* The suffix of an Announce, octets to be its tail, or a part of it. Of wrFlags the lowest four bits are written. Refuses nothing. */
+#define DZ_SUFFIX_OCTETS 14
+dz_answer dz_write_suffix(uint16_t flags, uint16_t magic, uint8_t tail[DZ_SUFFIX_OCTETS]);
 
 /* ---- Sender records ------------------------------------------------------------------------------------------------------------ */
 
@@ -164,13 +236,10 @@ enum dz_candidate {
     DZ_C_STEPS = 6,       /* 16 bits */
     DZ_C_SENDER_CLOCK = 7,
     DZ_C_SENDER_PORT = 8, /* 16 bits */
-    DZ_C_PORT = 9,        /* the receiver port, 8 bits; valid from 1 to 18 */
+    DZ_C_PORT = 9,        /* the receiver port, 1 to 18 */
     DZ_C_WRFLAGS = 10,    /* 16 bits */
     DZ_CANDIDATE_WORDS = 11
 };
-
-/* What asking for a candidate gives: a word, 1 where there is one, and the candidate; all 0 where there is none. */
-#define DZ_FOUND_WORDS 12
 
 /* What a slot keeps of a sender. */
 enum dz_record {
@@ -192,62 +261,103 @@ enum dz_record {
     DZ_RECORD_WORDS = 15
 };
 
+/* What a port tells of itself. */
+enum dz_status {
+    DZ_STATUS_LAST = 0,     /* its last accepted time, nanoseconds */
+    DZ_STATUS_INTERVAL = 1, /* its interval's exponent, signed */
+    DZ_STATUS_WORDS = 2
+};
+
 /* Takes the Announce in `octets`, which arrived on `port` at `time` (nanoseconds, not below the port's last). `domain` and `clock` are our
    own. Refuses, in this order: 8, as dz_read, 3 if it is no Announce, 9, 10, 11, 12, 13. */
-uint8_t dz_take(uint64_t ports[DZ_PORTS_WORDS], uint8_t port, uint64_t time, const uint8_t *octets, size_t length, uint8_t domain, uint64_t clock, uint16_t magic);
+dz_answer dz_take(uint64_t ports[DZ_PORTS_WORDS], uint64_t port, uint64_t time, const uint8_t *octets, size_t length, uint8_t domain, uint64_t clock, uint16_t magic);
 
-/* The candidate in a slot (0 to 15; past them there is none) of a port at a time: sixteen calls give a port's candidates. Refuses
-   8, then 11. */
-uint8_t dz_candidate(const uint64_t ports[DZ_PORTS_WORDS], uint8_t port, size_t slot, uint64_t time, uint64_t found[DZ_FOUND_WORDS]);
+/* The candidate in a slot of a port at a time: DZ_SLOTS calls give a port's candidates. A slot past them has none. Refuses 8, then 11. */
+dz_answer dz_candidate(const uint64_t ports[DZ_PORTS_WORDS], uint64_t port, size_t slot, uint64_t time, uint64_t found[DZ_FOUND_WORDS]);
 
 /* The best of a port's candidates at a time, first in rank order. Refuses 8, then 11. */
-uint8_t dz_best(const uint64_t ports[DZ_PORTS_WORDS], uint8_t port, uint64_t time, uint64_t found[DZ_FOUND_WORDS]);
+dz_answer dz_best(const uint64_t ports[DZ_PORTS_WORDS], uint64_t port, uint64_t time, uint64_t found[DZ_FOUND_WORDS]);
 
-/* A port's last accepted time, and its interval's exponent, signed. Refuses 8. */
-uint8_t dz_status(const uint64_t ports[DZ_PORTS_WORDS], uint8_t port, uint64_t status[2]);
+/* What a port tells of itself. Refuses 8. */
+dz_answer dz_status(const uint64_t ports[DZ_PORTS_WORDS], uint64_t port, uint64_t status[DZ_STATUS_WORDS]);
 
-/* The record in a slot of a port, live or expired. Refuses 8. */
-uint8_t dz_record(const uint64_t ports[DZ_PORTS_WORDS], uint8_t port, size_t slot, uint64_t held[DZ_RECORD_WORDS]);
+/* The record in a slot of a port, live or expired; a slot past DZ_SLOTS holds none, as one that never held a record. Refuses 8. */
+dz_answer dz_record(const uint64_t ports[DZ_PORTS_WORDS], uint64_t port, size_t slot, uint64_t held[DZ_RECORD_WORDS]);
 
 /* Sets a port's announce interval to 2^k seconds. Refuses 8, then 18 for a k outside -3 to 4. */
-uint8_t dz_set_interval(uint64_t ports[DZ_PORTS_WORDS], uint8_t port, int8_t k);
+dz_answer dz_set_interval(uint64_t ports[DZ_PORTS_WORDS], uint64_t port, int8_t k);
 
 /* ---- Ranking and deciding ------------------------------------------------------------------------------------------------------ */
 
 /* A ranked list: how many, 0 to 4, then four candidates. Those past the count are 0 when a call gives them, and not read. */
-#define DZ_LIST_WORDS 45
+enum dz_list { DZ_LIST_COUNT = 0, DZ_LIST_FIRST = 1, DZ_LIST_CANDIDATES = 4, DZ_LIST_WORDS = 45 };
 
-/* Our own quality: the first six words of a candidate, with our clockIdentity as the grandmaster. */
+/* Where in a list its candidate i stands, from 0. */
+#define DZ_LIST_AT(i) (DZ_LIST_FIRST + (i) * DZ_CANDIDATE_WORDS)
+
+/* Our own quality: the first six words of a candidate (DZ_C_PRIORITY1 to DZ_C_GRANDMASTER), our clockIdentity the last of them. */
 #define DZ_OWN_WORDS 6
 
-/* A data set for dz_compare: the first nine words are a candidate's, then the receiver. */
+/* What a clock without a better source says of itself: uint64_t own[DZ_OWN_WORDS] = DZ_OWN_DEFAULT(clock). */
+#define DZ_OWN_DEFAULT(clock) {128, 248, 0xFE, 0xFFFF, 128, (clock)}
+
+/* A data set for dz_compare: the first nine words are a candidate's (DZ_C_PRIORITY1 to DZ_C_SENDER_PORT), then the receiver. */
 enum dz_set { DZ_S_RECEIVER_CLOCK = 9, DZ_S_RECEIVER_PORT = 10, DZ_SET_WORDS = 11 };
 
+/* What a port is to do, as in IEEE 1588-2008, figure 26. S2 is White Rabbit's: a port in the ranked list that could take S1's place. */
 enum dz_decision { DZ_M1 = 1, DZ_M2 = 2, DZ_M3 = 3, DZ_S1 = 4, DZ_S2 = 5, DZ_P1 = 6, DZ_P2 = 7 };
+
+static inline const char *dz_decision_text(uint64_t decision)
+{
+    switch (decision) {
+    case DZ_M1: return "M1";
+    case DZ_M2: return "M2";
+    case DZ_M3: return "M3";
+    case DZ_S1: return "S1";
+    case DZ_S2: return "S2";
+    case DZ_P1: return "P1";
+    case DZ_P2: return "P2";
+    default: return "?";
+    }
+}
 
 enum dz_comparison { DZ_A_BETTER = 1, DZ_B_BETTER = 2, DZ_A_BETTER_BY_TOPOLOGY = 3, DZ_B_BETTER_BY_TOPOLOGY = 4, DZ_ERROR_1 = 5, DZ_ERROR_2 = 6 };
 
-/* The ranked list of a run of candidates, eleven words each, `words` in all, in any order, with repeats: the best of each port, cut after four.
-   Words past the last whole candidate are not looked at. Refuses 17, then 8 where a candidate's port is none of 1 to 18. */
-uint8_t dz_rank(const uint64_t *run, size_t words, uint64_t list[DZ_LIST_WORDS]);
+static inline const char *dz_comparison_text(uint64_t comparison)
+{
+    switch (comparison) {
+    case DZ_A_BETTER: return "A better";
+    case DZ_B_BETTER: return "B better";
+    case DZ_A_BETTER_BY_TOPOLOGY: return "A better by topology";
+    case DZ_B_BETTER_BY_TOPOLOGY: return "B better by topology";
+    case DZ_ERROR_1: return "error-1";
+    case DZ_ERROR_2: return "error-2";
+    default: return "?";
+    }
+}
 
-/* The ranked list of all that two ranked lists were ranked of, in any order and grouping. Refuses 15. */
-uint8_t dz_merge(const uint64_t a[DZ_LIST_WORDS], const uint64_t b[DZ_LIST_WORDS], uint64_t list[DZ_LIST_WORDS]);
+/* The ranked list of a run of candidates, which lie one behind the other, in any order, with repeats: the best of each port, cut after four.
+   Refuses 17 for more than DZ_CANDIDATES, then 8 where a candidate's port is none of 1 to 18, then 18 where another word does not fit. */
+dz_answer dz_rank(const uint64_t *run, size_t candidates, uint64_t list[DZ_LIST_WORDS]);
 
-/* What a port is to do (enum dz_decision, in decision[0]): by our own quality, the ranked list of all ports, and the port's best as dz_best
-   gives it. Refuses 8, then 15. */
-uint8_t dz_decide(const uint64_t own[DZ_OWN_WORDS], const uint64_t list[DZ_LIST_WORDS], uint8_t port, const uint64_t best[DZ_FOUND_WORDS], uint64_t decision[1]);
+/* The ranked list of all that two ranked lists were ranked of, in any order and grouping. Refuses 15, then 18 where a word does not fit. */
+dz_answer dz_merge(const uint64_t a[DZ_LIST_WORDS], const uint64_t b[DZ_LIST_WORDS], uint64_t list[DZ_LIST_WORDS]);
+
+/* What a port is to do (*decision is of enum dz_decision): by our own quality, the ranked list of all ports, and the port's best as dz_best
+   gives it; the port in that best is not looked at. Refuses 8, then 15, then 18 where a word does not fit. */
+dz_answer dz_decide(const uint64_t own[DZ_OWN_WORDS], const uint64_t list[DZ_LIST_WORDS], uint64_t port, const uint64_t best[DZ_FOUND_WORDS], uint64_t *decision);
 
 /* Every port's decision at a time in one call: decisions[p - 1] is that of port p (enum dz_decision), `list` the ranked list of all that
-   the eighteen ports hear, its first the best and the rest the backups. Refuses 11 where a port's last accepted time is later. */
-uint8_t dz_decide_all(const uint64_t ports[DZ_PORTS_WORDS], uint64_t now, const uint64_t own[DZ_OWN_WORDS], uint8_t decisions[18], uint64_t list[DZ_LIST_WORDS]);
+   the eighteen ports hear, its first the best and the rest the backups. Refuses 11 where a port's last accepted time is later, then 18 where a word
+   of our own quality does not fit. */
+dz_answer dz_decide_all(const uint64_t ports[DZ_PORTS_WORDS], uint64_t now, const uint64_t own[DZ_OWN_WORDS], uint8_t decisions[DZ_PORTS], uint64_t list[DZ_LIST_WORDS]);
 
-/* The parent by our own quality and the ranked list of all ports: found[0] is 1, the candidate follows; all 0 where our own clock leads.
-   The parent is the list's first, and its port is the one that is told S1. Refuses 15. */
-uint8_t dz_parent(const uint64_t own[DZ_OWN_WORDS], const uint64_t list[DZ_LIST_WORDS], uint64_t found[DZ_FOUND_WORDS]);
+/* The parent by our own quality and the ranked list of all ports: the list's first, whose port is the one that is told S1. None where our own clock
+   leads. Refuses 15, then 18 where a word does not fit. */
+dz_answer dz_parent(const uint64_t own[DZ_OWN_WORDS], const uint64_t list[DZ_LIST_WORDS], uint64_t found[DZ_FOUND_WORDS]);
 
-/* Two data sets compared as IEEE 1588-2008 compares them (enum dz_comparison, in answer[0]). Refuses nothing. */
-uint8_t dz_compare(const uint64_t a[DZ_SET_WORDS], const uint64_t b[DZ_SET_WORDS], uint64_t answer[1]);
+/* Two data sets compared as IEEE 1588-2008 compares them (*answer is of enum dz_comparison). Refuses 18 where a word does not fit. */
+dz_answer dz_compare(const uint64_t a[DZ_SET_WORDS], const uint64_t b[DZ_SET_WORDS], uint64_t *answer);
 
 /* ---- White Rabbit links -------------------------------------------------------------------------------------------------------- */
 
@@ -258,28 +368,58 @@ uint8_t dz_compare(const uint64_t a[DZ_SET_WORDS], const uint64_t b[DZ_SET_WORDS
    six words each; those past the count are 0. */
 enum dz_step {
     DZ_T_STATE = 0,   /* enum dz_state */
-    DZ_T_MODE = 1,    /* 0 or 1 */
-    DZ_T_RETRIES = 2,
-    DZ_T_REPORT = 3,  /* 1 where this step brought the link on */
-    DZ_T_SENDS = 4,   /* 0, 1 or 2 */
-    DZ_T_FIRST = 5,   /* the first message to send .. */
-    DZ_T_SECOND = 11, /* .. and the second */
-    DZ_STEP_WORDS = 17
+    DZ_T_ROLE = 1,    /* enum dz_role: that of the last start */
+    DZ_T_MODE = 2,    /* 0 or 1 */
+    DZ_T_RETRIES = 3, /* timeouts since the last change of state */
+    DZ_T_REPORT = 4,  /* 1 where this step brought the link on */
+    DZ_T_SENDS = 5,   /* 0, 1 or 2 */
+    DZ_T_FIRST = 6,   /* the first message to send .. */
+    DZ_T_SECOND = 12, /* .. and the second */
+    DZ_STEP_WORDS = 18
 };
 
-enum dz_state { DZ_IDLE = 0, DZ_STATE_PRESENT = 1, DZ_STATE_M_LOCK = 2, DZ_STATE_S_LOCK = 3, DZ_STATE_LOCKED = 4, DZ_STATE_CALIBRATION = 5, DZ_STATE_CALIBRATED = 6, DZ_STATE_RESP_CALIB_REQ = 7 };
+enum dz_role { DZ_ROLE_SLAVE = 0, DZ_ROLE_MASTER = 1 };
 
-/* Sets a port's link up: config 0 none, 1 master only, 2 slave only, 3 both; `calibrate` any number but 0 where the port needs calibration;
-   what its CALIBRATE (retry, period) and CALIBRATED (tx, rx) carry. Refuses 8, then 18 for a config above 3. */
-uint8_t dz_link_set(uint64_t links[DZ_LINKS_WORDS], uint8_t port, uint8_t config, uint8_t calibrate, uint8_t retry, uint32_t period, uint64_t tx, uint64_t rx);
+enum dz_state {
+    DZ_STATE_IDLE = 0,
+    DZ_STATE_PRESENT = 1,
+    DZ_STATE_M_LOCK = 2,
+    DZ_STATE_S_LOCK = 3,
+    DZ_STATE_LOCKED = 4,
+    DZ_STATE_CALIBRATION = 5,
+    DZ_STATE_CALIBRATED = 6,
+    DZ_STATE_RESP_CALIB_REQ = 7
+};
+
+static inline const char *dz_state_text(uint64_t state)
+{
+    switch (state) {
+    case DZ_STATE_IDLE: return "IDLE";
+    case DZ_STATE_PRESENT: return "PRESENT";
+    case DZ_STATE_M_LOCK: return "M_LOCK";
+    case DZ_STATE_S_LOCK: return "S_LOCK";
+    case DZ_STATE_LOCKED: return "LOCKED";
+    case DZ_STATE_CALIBRATION: return "CALIBRATION";
+    case DZ_STATE_CALIBRATED: return "CALIBRATED";
+    case DZ_STATE_RESP_CALIB_REQ: return "RESP_CALIB_REQ";
+    default: return "?";
+    }
+}
+
+/* Sets a port's link up: its config (enum dz_config); `calibrate` any number but 0 where the port needs calibration; what its CALIBRATE (retry,
+   period) and CALIBRATED (tx, rx) carry. Refuses 8, then 18 for a config above 3. */
+dz_answer dz_link_set(uint64_t links[DZ_LINKS_WORDS], uint64_t port, uint8_t config, uint8_t calibrate, uint8_t retry, uint32_t period, uint64_t tx, uint64_t rx);
 
 /* Events of a port's link: a start with the parent's config and mode (any number but 0 is on), a link message by its number, the hardware is
    done, a timeout, a stop. What no rule names is ignored and changes nothing. Each refuses 8. */
-uint8_t dz_link_start(uint64_t links[DZ_LINKS_WORDS], uint8_t port, uint8_t config, uint8_t mode, uint64_t step[DZ_STEP_WORDS]);
-uint8_t dz_link_take(uint64_t links[DZ_LINKS_WORDS], uint8_t port, uint16_t number, uint64_t step[DZ_STEP_WORDS]);
-uint8_t dz_link_done(uint64_t links[DZ_LINKS_WORDS], uint8_t port, uint64_t step[DZ_STEP_WORDS]);
-uint8_t dz_link_timeout(uint64_t links[DZ_LINKS_WORDS], uint8_t port, uint64_t step[DZ_STEP_WORDS]);
-uint8_t dz_link_stop(uint64_t links[DZ_LINKS_WORDS], uint8_t port, uint64_t step[DZ_STEP_WORDS]);
+dz_answer dz_link_start(uint64_t links[DZ_LINKS_WORDS], uint64_t port, uint8_t config, uint8_t mode, uint64_t step[DZ_STEP_WORDS]);
+dz_answer dz_link_take(uint64_t links[DZ_LINKS_WORDS], uint64_t port, uint16_t number, uint64_t step[DZ_STEP_WORDS]);
+dz_answer dz_link_done(uint64_t links[DZ_LINKS_WORDS], uint64_t port, uint64_t step[DZ_STEP_WORDS]);
+dz_answer dz_link_timeout(uint64_t links[DZ_LINKS_WORDS], uint64_t port, uint64_t step[DZ_STEP_WORDS]);
+dz_answer dz_link_stop(uint64_t links[DZ_LINKS_WORDS], uint64_t port, uint64_t step[DZ_STEP_WORDS]);
+
+/* A port's link as it stands, without an event: what an event that is ignored would answer. Refuses 8. */
+dz_answer dz_link_status(const uint64_t links[DZ_LINKS_WORDS], uint64_t port, uint64_t step[DZ_STEP_WORDS]);
 
 /* ---- Delay and offset ---------------------------------------------------------------------------------------------------------- */
 
@@ -287,11 +427,11 @@ uint8_t dz_link_stop(uint64_t links[DZ_LINKS_WORDS], uint8_t port, uint64_t step
    times 2^40. */
 enum dz_exchange {
     DZ_E_T1_SECONDS = 0,
-    DZ_E_T1_NANOS = 1,     /* 32 bits */
+    DZ_E_T1_NANOS = 1,
     DZ_E_SYNC = 2,         /* the Sync's correction, signed */
     DZ_E_FOLLOW = 3,       /* the Follow_Up's, signed; 0 for one-step */
     DZ_E_T2_SECONDS = 4,
-    DZ_E_T2_NANOS = 5,     /* 32 bits */
+    DZ_E_T2_NANOS = 5,
     DZ_E_T2_FRACTION = 6,  /* 16 bits, of a nanosecond */
     DZ_E_T3_SECONDS = 7,
     DZ_E_T3_NANOS = 8,
@@ -307,10 +447,17 @@ enum dz_exchange {
     DZ_EXCHANGE_WORDS = 18
 };
 
-/* measured[0] is the delay, signed, in nanoseconds times 2^16; measured[1] and [2] the offset: whole seconds, signed, rounded down, and
-   a rest below 65,536,000,000,000 in nanoseconds times 2^16. Refuses 14 for stamps of 10^9 nanoseconds or 2^48 seconds or more, corrections or
+/* What an exchange gives. */
+enum dz_measured {
+    DZ_D_DELAY = 0,   /* signed, nanoseconds times 2^16 */
+    DZ_D_SECONDS = 1, /* the offset: whole seconds, signed, rounded down .. */
+    DZ_D_REST = 2,    /* .. and a rest below 65,536,000,000,000, nanoseconds times 2^16 */
+    DZ_MEASURED_WORDS = 3
+};
+
+/* The delay and the offset of an exchange. Refuses 14 for stamps of 10^9 nanoseconds or 2^48 seconds or more, fractions of 2^16 or more, corrections or
    differences not strictly between -2^47 and 2^47, an asymmetry not strictly between -2^39 and 2^39, a latency of 2^50 or more. */
-uint8_t dz_measure(const uint64_t exchange[DZ_EXCHANGE_WORDS], uint64_t measured[3]);
+dz_answer dz_measure(const uint64_t exchange[DZ_EXCHANGE_WORDS], uint64_t measured[DZ_MEASURED_WORDS]);
 
 #ifdef __cplusplus
 }

@@ -1,16 +1,22 @@
-/* Calls of include/dzervolat.h at random: on fresh, grown and random state, with whole and damaged messages, with words at the edges
-   of their fields. After each call all that was lent to it is compared with what it was: a refusal has changed nothing, an answer
-   has changed only what it may, not a word beside it. Answers are held against one another where the rules tie them together.
+/* Calls of include/dzervolat.h at random: on fresh, grown and random state, with whole and damaged messages, with words at the edges of their
+   fields and past them.
 
-   fuzz CALLS SEED ends with status 1 at the first thing that is wrong. */
+   After each call all that was lent to it is compared with what it was: a refusal has changed nothing, an answer has changed only what it
+   may, not a word beside it. A call gives no number that it cannot give. What can be said without the engine is said here over again: which words are
+   too wide for their fields, which ports are none, which lists are ranked; then the number is the one of the header, in its order, and
+   nothing is cut. Answers are held against one another where the rules tie them together.
+
+   fuzz [CALLS [SEED]] ends with status 1 at the first thing that is wrong. */
 #include "dzervolat.h"
 
+#include <inttypes.h>
 #include <stdio.h>
 #include <stdlib.h>
 #include <string.h>
 
 /* ---- chance -------------------------------------------------------------------------------------------------------------------- */
 
+/* A seed makes the same calls whatever the compiler: no expression takes two numbers in an order that C leaves open. */
 static uint64_t chance;
 
 static uint64_t any(void)
@@ -26,38 +32,76 @@ static uint64_t below(uint64_t n)
     return (any() >> 11) % n;
 }
 
+static int one_in(uint64_t n)
+{
+    return below(n) == 0;
+}
+
 /* A number at an edge of some field, or any. */
 static uint64_t edge(void)
 {
-    static const uint64_t edges[] = {0, 1, 2, 127, 128, 255, 256, 32767, 32768, 65535, 65536, 999999999, 1000000000, 0xFFFFFFFF, 0x100000000, 1ul << 39, (1ul << 47) - 1,
-        1ul << 47, (1ul << 48) - 1, 1ul << 48, (1ul << 50) - 1, 1ul << 50, 1ul << 63, -1ul, -2ul, -3ul, -4ul, -(1ul << 39), -(1ul << 47)};
-    return below(4) ? edges[below(sizeof edges / sizeof *edges)] : any();
+    static const int bits[] = {0, 1, 4, 7, 8, 15, 16, 30, 32, 39, 40, 47, 48, 50, 63};
+    uint64_t power = (uint64_t)1 << bits[below(sizeof bits / sizeof *bits)], beside = below(3) - 1;
+    if (one_in(4)) return any();
+    return one_in(2) ? power + beside : beside - power;
+}
+
+/* Changes one of some octets. */
+static void change_octet(uint8_t *o, size_t n)
+{
+    size_t i = below(n);
+    o[i] = (uint8_t)any();
+}
+
+/* Sets one of some words to an edge. */
+static void set_to_edge(uint64_t *w, size_t n)
+{
+    size_t i = below(n);
+    w[i] = edge();
 }
 
 /* ---- what is lent -------------------------------------------------------------------------------------------------------------- */
 
-/* Each thing that is lent stands in a box, with words before and behind it that no call may touch. */
-enum { PORTS, LINKS, FIRST, SECOND, OUT, IN, MORE, THIRD, BOXES };
-enum { FRONT = 8, WORDS = FRONT + DZ_PORTS_WORDS + 8, ROOM = 600 };
+/* Each thing that is lent stands in a box of its own, with words before and behind it that no call may touch. */
+enum box { PORTS, LINKS, FRAME, FOLLOW, TAIL, OUT, MESSAGE, LINK, RUN, LIST, OTHER, MERGED, TOGETHER, OWN, BEST, SET, RIVAL, EXCHANGE, RECORD, FOUND, STEP, DECISIONS, ANSWER, BOXES };
+enum { GUARD = 4, LONGEST_RUN = 300, OCTETS = 640, BOX_WORDS = 64 + GUARD };
 
-static uint64_t box[BOXES][WORDS], was[BOXES][WORDS];
-static size_t may[BOXES]; /* how many octets of a box a call may change */
-static uint64_t calls, refusals[19];
-static const char *calling;
+static const size_t sizes[BOXES] = {
+    [PORTS] = DZ_PORTS_WORDS, [LINKS] = DZ_LINKS_WORDS, [RUN] = LONGEST_RUN * DZ_CANDIDATE_WORDS, [FRAME] = OCTETS / 8, [FOLLOW] = OCTETS / 8, [TAIL] = OCTETS / 8, [OUT] = OCTETS / 8,
+};
+static uint64_t memory[DZ_PORTS_WORDS + DZ_LINKS_WORDS + LONGEST_RUN * DZ_CANDIDATE_WORDS + 4 * OCTETS / 8 + BOXES * BOX_WORDS + GUARD], before[sizeof memory / 8];
+static uint64_t *boxes[BOXES];
+static uint8_t *changeable[BOXES]; /* the end of what a call may change, from the box's first octet on */
+static uint64_t calls, answers[DZ_REFUSED_FIELD + 1];
+static const char *calling = "";
 
-static uint64_t *words(int b)
+static void lay_out(void)
 {
-    return box[b] + FRONT;
+    uint64_t *next = memory + GUARD;
+    for (int b = 0; b < BOXES; b++) {
+        boxes[b] = next;
+        next += (sizes[b] ? sizes[b] : BOX_WORDS - GUARD) + GUARD;
+    }
 }
 
-static uint8_t *octets(int b)
+static uint64_t *words(enum box b)
 {
-    return (uint8_t *)words(b);
+    return boxes[b];
+}
+
+static uint8_t *octets(enum box b)
+{
+    return (uint8_t *)boxes[b];
+}
+
+static const uint64_t *words_before(enum box b)
+{
+    return before + (boxes[b] - memory);
 }
 
 static void wrong(const char *what)
 {
-    printf("%s, call %lu: %s\n", calling, calls, what);
+    printf("%s, call %" PRIu64 ": %s\n", calling, calls, what);
     exit(1);
 }
 
@@ -66,378 +110,1029 @@ static void expect(int holds, const char *what)
     if (!holds) wrong(what);
 }
 
-static void fill(int b)
+static void fill(uint64_t *w, size_t n)
 {
-    for (int i = 0; i < WORDS; i++) box[b][i] = any();
+    for (size_t i = 0; i < n; i++) w[i] = any();
 }
 
-/* A call begins: everything is as it is now. */
+static int same_words(const uint64_t *a, const uint64_t *b, size_t n)
+{
+    return memcmp(a, b, n * sizeof *a) == 0;
+}
+
+/* A call begins: everything is as it is now, and it may change nothing but what is said after this. */
 static void begin(const char *call)
 {
     calling = call;
-    memcpy(was, box, sizeof box);
-    memset(may, 0, sizeof may);
+    memcpy(before, memory, sizeof memory);
+    for (int b = 0; b < BOXES; b++) changeable[b] = octets(b);
+}
+
+static void may(enum box b, size_t n)
+{
+    changeable[b] = octets(b) + n * 8;
 }
 
 /* A call has returned: its number is one that it can give, and what it has changed is what it may change. */
-static unsigned end(unsigned code, uint32_t given)
+static dz_answer end(dz_answer answer, uint32_t given)
 {
+    const uint8_t *at = (const uint8_t *)memory, *now, *stop = (const uint8_t *)(memory + sizeof memory / 8);
     calls++;
-    expect(code <= 18, "a number past 18");
-    refusals[code]++;
-    expect(given >> code & 1, "a number that it cannot give");
-    for (int b = 0; b < BOXES; b++) {
-        size_t free = code == 0 ? may[b] : 0;
-        expect(!memcmp(box[b], was[b], FRONT * 8), "words before what was lent have changed");
-        expect(!memcmp(octets(b) + free, (uint8_t *)(was[b] + FRONT) + free, (WORDS - FRONT) * 8 - free), code ? "a refusal has changed what was lent" : "more has changed than may");
+    expect(answer <= DZ_REFUSED_FIELD, "a number past 18");
+    answers[answer]++;
+    expect(given >> answer & 1, "a number that it cannot give");
+    for (int b = 0; b <= BOXES; b++, at = now) {
+        const uint8_t *to = b < BOXES ? octets(b) : stop;
+        now = b == BOXES ? stop : answer ? to : changeable[b];
+        expect(!memcmp(at, (const uint8_t *)before + (at - (const uint8_t *)memory), (size_t)(to - at)), answer ? "a refusal has changed what was lent" : "more has changed than may");
     }
-    return code;
+    return answer;
 }
 
 /* The numbers that a call can give. */
 #define CAN(n) (1u << (n))
-#define READING (1u | CAN(1) | CAN(2) | CAN(3) | CAN(4) | CAN(5) | CAN(6) | CAN(7))
-#define ASKING (1u | CAN(8) | CAN(11))
+#define READING (CAN(DZ_OK) | CAN(DZ_REFUSED_SHORT) | CAN(DZ_REFUSED_VERSION) | CAN(DZ_REFUSED_TYPE) | CAN(DZ_REFUSED_LENGTH) | CAN(DZ_REFUSED_STAMP) | CAN(DZ_REFUSED_TLV) | CAN(DZ_REFUSED_WRBAD))
 
-/* ---- what is asked about ------------------------------------------------------------------------------------------------------- */
+/* ---- fields -------------------------------------------------------------------------------------------------------------------- */
+
+/* How many bits of a word its field can hold, place by place; 0 for a word that is not looked at. Ports of ours are told apart from fields. */
+enum { ANY = 64, SIGNED = 128, WIDTH = 127 };
+#define QUALITY [DZ_C_PRIORITY1] = 8, [DZ_C_CLASS] = 8, [DZ_C_ACCURACY] = 8, [DZ_C_VARIANCE] = 16, [DZ_C_PRIORITY2] = 8, [DZ_C_GRANDMASTER] = ANY
+#define SENDER [DZ_C_STEPS] = 16, [DZ_C_SENDER_CLOCK] = ANY, [DZ_C_SENDER_PORT] = 16
+#define HEADER [DZ_M_TYPE] = 4, [DZ_M_TRANSPORT] = 4, [DZ_M_DOMAIN] = 8, [DZ_M_FLAGS] = 16, [DZ_M_CORRECTION] = ANY, [DZ_M_CLOCK] = ANY, [DZ_M_PORT] = 16, \
+    [DZ_M_SEQUENCE] = 16, [DZ_M_INTERVAL] = SIGNED | 8
+#define STAMP [DZ_M_SECONDS] = 48, [DZ_M_NANOS] = 32
+static const uint8_t own_bits[DZ_OWN_WORDS] = {QUALITY};
+static const uint8_t candidate_bits[DZ_CANDIDATE_WORDS] = {QUALITY, SENDER, [DZ_C_PORT] = ANY, [DZ_C_WRFLAGS] = 16};
+static const uint8_t set_bits[DZ_SET_WORDS] = {QUALITY, SENDER, [DZ_S_RECEIVER_CLOCK] = ANY, [DZ_S_RECEIVER_PORT] = 16};
+static const uint8_t stamped_bits[DZ_MESSAGE_WORDS] = {HEADER, STAMP};
+static const uint8_t resp_bits[DZ_MESSAGE_WORDS] = {HEADER, STAMP, [DZ_M_REQUESTER_CLOCK] = ANY, [DZ_M_REQUESTER_PORT] = 16};
+static const uint8_t announce_bits[DZ_MESSAGE_WORDS] = {HEADER, STAMP, [DZ_M_UTC] = SIGNED | 16, [DZ_M_PRIORITY1] = 8, [DZ_M_CLASS] = 8, [DZ_M_ACCURACY] = 8,
+    [DZ_M_VARIANCE] = 16, [DZ_M_PRIORITY2] = 8, [DZ_M_GRANDMASTER] = ANY, [DZ_M_STEPS] = 16, [DZ_M_SOURCE] = 8};
+static const uint8_t signaling_bits[DZ_MESSAGE_WORDS] = {HEADER, [DZ_M_TARGET_CLOCK] = ANY, [DZ_M_TARGET_PORT] = 16};
+static const uint8_t bare_bits[DZ_LINK_MESSAGE_WORDS] = {[DZ_L_NUMBER] = 16};
+static const uint8_t calibrate_bits[DZ_LINK_MESSAGE_WORDS] = {[DZ_L_NUMBER] = 16, [DZ_L_PATTERN] = 8, [DZ_L_RETRY] = 8, [DZ_L_PERIOD] = 32};
+static const uint8_t calibrated_bits[DZ_LINK_MESSAGE_WORDS] = {[DZ_L_NUMBER] = 16, [DZ_L_TX] = ANY, [DZ_L_RX] = ANY};
+static const uint8_t exchange_bits[DZ_EXCHANGE_WORDS] = {[DZ_E_T1_SECONDS] = 48, [DZ_E_T1_NANOS] = 32, [DZ_E_SYNC] = SIGNED | 48, [DZ_E_FOLLOW] = SIGNED | 48,
+    [DZ_E_T2_SECONDS] = 48, [DZ_E_T2_NANOS] = 32, [DZ_E_T2_FRACTION] = 16, [DZ_E_T3_SECONDS] = 48, [DZ_E_T3_NANOS] = 32, [DZ_E_T3_FRACTION] = 16, [DZ_E_T4_SECONDS] = 48,
+    [DZ_E_T4_NANOS] = 32, [DZ_E_RESP] = SIGNED | 48, [DZ_E_MASTER_TX] = 50, [DZ_E_MASTER_RX] = 50, [DZ_E_SLAVE_TX] = 50, [DZ_E_SLAVE_RX] = 50, [DZ_E_ASYMMETRY] = SIGNED | 40};
+
+static const uint8_t *message_bits(uint64_t type)
+{
+    switch (type) {
+    case DZ_SYNC: case DZ_DELAY_REQ: case DZ_FOLLOW_UP: return stamped_bits;
+    case DZ_DELAY_RESP: return resp_bits;
+    case DZ_ANNOUNCE: return announce_bits;
+    case DZ_SIGNALING: return signaling_bits;
+    default: return NULL;
+    }
+}
+
+static const uint8_t *link_bits(uint64_t number)
+{
+    if (number < DZ_LINK_SLAVE_PRESENT || number > DZ_LINK_WR_MODE_ON) return NULL;
+    return number == DZ_LINK_CALIBRATE ? calibrate_bits : number == DZ_LINK_CALIBRATED ? calibrated_bits : bare_bits;
+}
+
+/* What a field would hold of a word. */
+static uint64_t cut(uint64_t w, uint8_t bits)
+{
+    uint64_t most = bits % SIGNED >= ANY ? UINT64_MAX : ((uint64_t)1 << bits % SIGNED) - 1, half = most / 2 + 1;
+    return bits & SIGNED ? ((w & most) ^ half) - half : w & most;
+}
+
+static int fits(const uint64_t *w, const uint8_t *bits, size_t n)
+{
+    for (size_t i = 0; i < n; i++)
+        if (bits[i] && cut(w[i], bits[i]) != w[i]) return 0;
+    return 1;
+}
+
+/* Makes one of some words too wide. What its field would hold of it stays, so that a call that cuts it would notice nothing. */
+static void widen(uint64_t *w, const uint8_t *bits, size_t n)
+{
+    size_t i;
+    do i = below(n);
+    while ((bits[i] & WIDTH) == 0 || (bits[i] & WIDTH) == ANY);
+    w[i] += (uint64_t)1 << ((bits[i] & WIDTH) + below((uint64_t)(ANY - (bits[i] & WIDTH))));
+}
+
+static int is_port(uint64_t port)
+{
+    return port >= 1 && port <= DZ_PORTS;
+}
+
+static int earlier(const uint64_t *a, const uint64_t *b)
+{
+    for (int i = 0; i < DZ_CANDIDATE_WORDS; i++)
+        if (cut(a[i], candidate_bits[i]) != cut(b[i], candidate_bits[i])) return cut(a[i], candidate_bits[i]) < cut(b[i], candidate_bits[i]);
+    return 0;
+}
+
+/* Four candidates at most, of ports that are ports, each port once, in rank order. Words past the count say nothing. */
+static int is_ranked(const uint64_t *list)
+{
+    if (list[DZ_LIST_COUNT] > DZ_LIST_CANDIDATES) return 0;
+    for (size_t i = 0; i < list[DZ_LIST_COUNT]; i++) {
+        const uint64_t *c = list + DZ_LIST_AT(i);
+        if (!is_port(c[DZ_C_PORT]) || (i > 0 && !earlier(c - DZ_CANDIDATE_WORDS, c))) return 0;
+        for (size_t k = 0; k < i; k++)
+            if (list[DZ_LIST_AT(k) + DZ_C_PORT] == c[DZ_C_PORT]) return 0;
+    }
+    return 1;
+}
+
+static int list_fits(const uint64_t *list)
+{
+    for (size_t i = 0; i < list[DZ_LIST_COUNT]; i++)
+        if (!fits(list + DZ_LIST_AT(i), candidate_bits, DZ_CANDIDATE_WORDS)) return 0;
+    return 1;
+}
+
+/* ---- the calls, and the number that each must give as far as it is known without the engine ------------------------------------ */
 
 static uint64_t now;
 static const uint64_t own_clock = 77;
+static const uint8_t own_domain = 0;
 static const uint16_t magic = DZ_EXAMPLE_MAGIC;
 
-static uint8_t any_port(void)
+/* The number is 8 where a port is none, and not elsewhere. */
+static dz_answer of_port(uint64_t port, dz_answer answer)
 {
-    return below(12) ? 1 + below(18) : below(2) ? 0 : 19 + below(200);
+    expect((answer == DZ_REFUSED_PORT) == !is_port(port), "8 for a port, or a port that is none without 8");
+    return answer;
 }
 
-/* A message in words, of any type, nearly always one that can be written. */
-static void any_message(uint64_t *m)
+static dz_answer must_be(dz_answer answer, dz_answer right)
 {
-    static const uint8_t types[] = {DZ_SYNC, DZ_DELAY_REQ, DZ_FOLLOW_UP, DZ_DELAY_RESP, DZ_ANNOUNCE, DZ_ANNOUNCE, DZ_ANNOUNCE, DZ_SIGNALING};
-    memset(m, 0, DZ_MESSAGE_WORDS * 8);
-    m[DZ_M_TYPE] = types[below(8)];
+    if (answer != right) printf("%s answers %" PRIu64 ", %s, and not %" PRIu64 "\n", calling, answer, dz_refusal_text(answer), right);
+    expect(answer == right, "another number than the header says");
+    return answer;
+}
+
+static dz_answer read_frame(enum box frame, size_t n)
+{
+    begin("dz_read");
+    may(MESSAGE, DZ_MESSAGE_WORDS), may(FOUND, DZ_TAIL_WORDS);
+    return end(dz_read(octets(frame), n, magic, words(MESSAGE), words(FOUND)), READING);
+}
+
+static dz_answer look_up(size_t n, uint16_t type)
+{
+    begin("dz_lookup");
+    may(FOUND, DZ_FOUND_DATA_WORDS);
+    return end(dz_lookup(octets(FRAME), n, type, magic, words(FOUND)), READING);
+}
+
+static dz_answer suffix(size_t n)
+{
+    begin("dz_suffix");
+    may(FOUND, DZ_FOUND_WRFLAGS_WORDS);
+    return end(dz_suffix(octets(FRAME), n, magic, words(FOUND)), READING);
+}
+
+static dz_answer link_message(enum box frame, size_t n)
+{
+    begin("dz_link_message");
+    may(FOUND, DZ_FOUND_LINK_WORDS);
+    return end(dz_link_message(octets(frame), n, magic, words(FOUND)), READING);
+}
+
+static dz_answer origin(size_t sync, size_t follow)
+{
+    begin("dz_origin");
+    may(FOUND, DZ_STAMP_WORDS);
+    return end(dz_origin(octets(FRAME), sync, octets(FOLLOW), follow, magic, words(FOUND)), READING);
+}
+
+static dz_answer write_frame(size_t room, size_t tail)
+{
+    begin("dz_write");
+    changeable[OUT] = octets(OUT) + room, may(ANSWER, 1);
+    return end(dz_write(octets(OUT), room, words(MESSAGE), octets(TAIL), tail, magic, words(ANSWER)), CAN(DZ_OK) | CAN(DZ_REFUSED_FIELD) | CAN(DZ_REFUSED_ROOM));
+}
+
+static dz_answer write_link(size_t room)
+{
+    begin("dz_write_link");
+    changeable[OUT] = octets(OUT) + room, may(ANSWER, 1);
+    return end(dz_write_link(octets(OUT), room, words(MESSAGE), words(LINK), magic, words(ANSWER)), CAN(DZ_OK) | CAN(DZ_REFUSED_FIELD) | CAN(DZ_REFUSED_ROOM));
+}
+
+static void write_suffix(uint16_t flags)
+{
+    begin("dz_write_suffix");
+    changeable[OUT] = octets(OUT) + DZ_SUFFIX_OCTETS;
+    end(dz_write_suffix(flags, magic, octets(OUT)), CAN(DZ_OK));
+}
+
+static dz_answer status(uint64_t port)
+{
+    begin("dz_status");
+    may(FOUND, DZ_STATUS_WORDS);
+    return of_port(port, end(dz_status(words(PORTS), port, words(FOUND)), CAN(DZ_OK) | CAN(DZ_REFUSED_PORT)));
+}
+
+/* A port's last accepted time. */
+static uint64_t last_of(uint64_t port)
+{
+    uint64_t told[DZ_STATUS_WORDS] = {0};
+    dz_status(words(PORTS), port, told);
+    return told[DZ_STATUS_LAST];
+}
+
+/* A question about a port's candidates is refused where its time is over, and not elsewhere. */
+static dz_answer asked(uint64_t port, uint64_t t, dz_answer answer)
+{
+    if (is_port(port)) must_be(answer, t < last_of(port) ? DZ_REFUSED_BACKWARD : DZ_OK);
+    return of_port(port, answer);
+}
+
+static dz_answer candidate(uint64_t port, size_t slot, uint64_t t)
+{
+    begin("dz_candidate");
+    may(FOUND, DZ_FOUND_WORDS);
+    return asked(port, t, end(dz_candidate(words(PORTS), port, slot, t, words(FOUND)), CAN(DZ_OK) | CAN(DZ_REFUSED_PORT) | CAN(DZ_REFUSED_BACKWARD)));
+}
+
+static dz_answer best(uint64_t port, uint64_t t)
+{
+    begin("dz_best");
+    may(BEST, DZ_FOUND_WORDS);
+    return asked(port, t, end(dz_best(words(PORTS), port, t, words(BEST)), CAN(DZ_OK) | CAN(DZ_REFUSED_PORT) | CAN(DZ_REFUSED_BACKWARD)));
+}
+
+static dz_answer record(uint64_t port, size_t slot)
+{
+    begin("dz_record");
+    may(RECORD, DZ_RECORD_WORDS);
+    return of_port(port, end(dz_record(words(PORTS), port, slot, words(RECORD)), CAN(DZ_OK) | CAN(DZ_REFUSED_PORT)));
+}
+
+static dz_answer take(uint64_t port, uint64_t t, size_t n)
+{
+    begin("dz_take");
+    may(PORTS, DZ_PORTS_WORDS);
+    return of_port(port, end(dz_take(words(PORTS), port, t, octets(FRAME), n, own_domain, own_clock, magic), READING | CAN(DZ_REFUSED_PORT) | CAN(DZ_REFUSED_DOMAIN) | CAN(DZ_REFUSED_OWN)
+        | CAN(DZ_REFUSED_BACKWARD) | CAN(DZ_REFUSED_STALE) | CAN(DZ_REFUSED_FULL)));
+}
+
+static dz_answer set_interval(uint64_t port, int8_t k)
+{
+    begin("dz_set_interval");
+    may(PORTS, DZ_PORTS_WORDS);
+    dz_answer answer = end(dz_set_interval(words(PORTS), port, k), CAN(DZ_OK) | CAN(DZ_REFUSED_PORT) | CAN(DZ_REFUSED_FIELD));
+    return must_be(answer, !is_port(port) ? DZ_REFUSED_PORT : k < -3 || k > 4 ? DZ_REFUSED_FIELD : DZ_OK);
+}
+
+static dz_answer rank(size_t from, size_t n, enum box list)
+{
+    const uint64_t *run = words(RUN) + from * DZ_CANDIDATE_WORDS;
+    dz_answer right = DZ_OK;
+    for (size_t i = 0; i < n; i++) {
+        const uint64_t *c = run + i * DZ_CANDIDATE_WORDS;
+        if (!is_port(c[DZ_C_PORT])) right = DZ_REFUSED_PORT;
+        else if (!fits(c, candidate_bits, DZ_CANDIDATE_WORDS) && right == DZ_OK) right = DZ_REFUSED_FIELD;
+    }
+    begin("dz_rank");
+    may(list, DZ_LIST_WORDS);
+    dz_answer answer = end(dz_rank(run, n, words(list)), CAN(DZ_OK) | CAN(DZ_REFUSED_PORT) | CAN(DZ_REFUSED_MANY) | CAN(DZ_REFUSED_FIELD));
+    return must_be(answer, n > DZ_PORTS * DZ_SLOTS ? DZ_REFUSED_MANY : right);
+}
+
+static dz_answer merge(enum box a, enum box b)
+{
+    begin("dz_merge");
+    may(MERGED, DZ_LIST_WORDS);
+    dz_answer answer = end(dz_merge(words(a), words(b), words(MERGED)), CAN(DZ_OK) | CAN(DZ_REFUSED_UNRANKED) | CAN(DZ_REFUSED_FIELD));
+    return must_be(answer, !is_ranked(words(a)) || !is_ranked(words(b)) ? DZ_REFUSED_UNRANKED : !list_fits(words(a)) || !list_fits(words(b)) ? DZ_REFUSED_FIELD : DZ_OK);
+}
+
+static dz_answer decide(uint64_t port)
+{
+    int whole = fits(words(OWN), own_bits, DZ_OWN_WORDS) && (words(BEST)[DZ_FOUND] == 0 || fits(words(BEST) + DZ_FOUND_CANDIDATE, candidate_bits, DZ_CANDIDATE_WORDS));
+    begin("dz_decide");
+    may(ANSWER, 1);
+    dz_answer answer = end(dz_decide(words(OWN), words(LIST), port, words(BEST), words(ANSWER)), CAN(DZ_OK) | CAN(DZ_REFUSED_PORT) | CAN(DZ_REFUSED_UNRANKED) | CAN(DZ_REFUSED_FIELD));
+    must_be(answer, !is_port(port) ? DZ_REFUSED_PORT : !is_ranked(words(LIST)) ? DZ_REFUSED_UNRANKED : !whole || !list_fits(words(LIST)) ? DZ_REFUSED_FIELD : DZ_OK);
+    if (answer == DZ_OK) expect(words(ANSWER)[0] >= DZ_M1 && words(ANSWER)[0] <= DZ_P2, "a decision that is none");
+    return answer;
+}
+
+static dz_answer decide_all(uint64_t t)
+{
+    int late = 0;
+    for (uint64_t p = 1; p <= DZ_PORTS; p++) late |= t < last_of(p);
+    begin("dz_decide_all");
+    changeable[DECISIONS] = octets(DECISIONS) + DZ_PORTS, may(LIST, DZ_LIST_WORDS);
+    dz_answer answer = end(dz_decide_all(words(PORTS), t, words(OWN), octets(DECISIONS), words(LIST)), CAN(DZ_OK) | CAN(DZ_REFUSED_BACKWARD) | CAN(DZ_REFUSED_FIELD));
+    return must_be(answer, late ? DZ_REFUSED_BACKWARD : fits(words(OWN), own_bits, DZ_OWN_WORDS) ? DZ_OK : DZ_REFUSED_FIELD);
+}
+
+static dz_answer parent(void)
+{
+    begin("dz_parent");
+    may(FOUND, DZ_FOUND_WORDS);
+    dz_answer answer = end(dz_parent(words(OWN), words(LIST), words(FOUND)), CAN(DZ_OK) | CAN(DZ_REFUSED_UNRANKED) | CAN(DZ_REFUSED_FIELD));
+    return must_be(answer, !is_ranked(words(LIST)) ? DZ_REFUSED_UNRANKED : fits(words(OWN), own_bits, DZ_OWN_WORDS) && list_fits(words(LIST)) ? DZ_OK : DZ_REFUSED_FIELD);
+}
+
+static dz_answer compare(enum box a, enum box b)
+{
+    begin("dz_compare");
+    may(ANSWER, 1);
+    dz_answer answer = end(dz_compare(words(a), words(b), words(ANSWER)), CAN(DZ_OK) | CAN(DZ_REFUSED_FIELD));
+    must_be(answer, fits(words(a), set_bits, DZ_SET_WORDS) && fits(words(b), set_bits, DZ_SET_WORDS) ? DZ_OK : DZ_REFUSED_FIELD);
+    if (answer == DZ_OK) expect(words(ANSWER)[0] >= DZ_A_BETTER && words(ANSWER)[0] <= DZ_ERROR_2, "a comparison that is none");
+    return answer;
+}
+
+static dz_answer link_status(uint64_t port)
+{
+    begin("dz_link_status");
+    may(FOUND, DZ_STEP_WORDS);
+    return of_port(port, end(dz_link_status(words(LINKS), port, words(FOUND)), CAN(DZ_OK) | CAN(DZ_REFUSED_PORT)));
+}
+
+static dz_answer link_set(uint64_t port, uint8_t config)
+{
+    uint8_t calibrate = (uint8_t)below(3), retry = (uint8_t)any();
+    uint32_t period = (uint32_t)any();
+    uint64_t tx = any(), rx = any();
+    begin("dz_link_set");
+    may(LINKS, DZ_LINKS_WORDS);
+    dz_answer answer = end(dz_link_set(words(LINKS), port, config, calibrate, retry, period, tx, rx), CAN(DZ_OK) | CAN(DZ_REFUSED_PORT) | CAN(DZ_REFUSED_FIELD));
+    return must_be(answer, !is_port(port) ? DZ_REFUSED_PORT : config > DZ_CONFIG_BOTH ? DZ_REFUSED_FIELD : DZ_OK);
+}
+
+/* An event of a link: a message by its number, else one of the other four. */
+enum { START, DONE, TIMEOUT, STOP, EVENTS };
+
+static dz_answer link_event(uint64_t port, uint64_t event)
+{
+    static const char *const names[] = {"dz_link_start", "dz_link_done", "dz_link_timeout", "dz_link_stop", "dz_link_take"};
+    uint64_t *links = words(LINKS), *step = words(STEP);
+    uint8_t config = (uint8_t)below(5), mode = (uint8_t)below(2);
+    dz_answer answer;
+    begin(names[event < EVENTS ? event : EVENTS]);
+    may(LINKS, DZ_LINKS_WORDS), may(STEP, DZ_STEP_WORDS);
+    switch (event) {
+    case START: answer = dz_link_start(links, port, config, mode, step); break;
+    case DONE: answer = dz_link_done(links, port, step); break;
+    case TIMEOUT: answer = dz_link_timeout(links, port, step); break;
+    case STOP: answer = dz_link_stop(links, port, step); break;
+    default: answer = dz_link_take(links, port, (uint16_t)event, step);
+    }
+    return of_port(port, end(answer, CAN(DZ_OK) | CAN(DZ_REFUSED_PORT)));
+}
+
+static dz_answer measure(void)
+{
+    begin("dz_measure");
+    may(ANSWER, DZ_MEASURED_WORDS);
+    return end(dz_measure(words(EXCHANGE), words(ANSWER)), CAN(DZ_OK) | CAN(DZ_REFUSED_RANGE));
+}
+
+/* ---- what is asked about ------------------------------------------------------------------------------------------------------- */
+
+/* A port, now and then one that is none, and of these some that are a port in their lowest bits. */
+static uint64_t any_port(void)
+{
+    uint64_t port = 1 + below(DZ_PORTS);
+    switch (below(12)) {
+    case 0: return port + ((uint64_t)1 << (8 + below(56)));
+    case 1: return one_in(2) ? 0 : DZ_PORTS + 1 + below(300);
+    default: return port;
+    }
+}
+
+/* A time: mostly the present, which goes on, else the past; seldom any, for a port that accepts one far ahead accepts no other. */
+static uint64_t any_time(void)
+{
+    if (one_in(500)) return edge();
+    return one_in(10) ? below(now + 1) : (now += below(20000000));
+}
+
+/* The present, where no port's last accepted time is later. */
+static uint64_t present(void)
+{
+    uint64_t t = now;
+    for (uint64_t p = 1; p <= DZ_PORTS; p++)
+        if (last_of(p) > t) t = last_of(p);
+    return t;
+}
+
+/* A message in words, that can be written. Of the senders of Announces there are more than a port has slots; most of their numbers go up. */
+static void any_message(uint64_t *m, uint64_t type)
+{
+    fill(m, DZ_MESSAGE_WORDS); /* of which those that the type has no field for stay */
+    m[DZ_M_TYPE] = type;
     m[DZ_M_TRANSPORT] = below(16);
-    m[DZ_M_DOMAIN] = below(8) ? 0 : below(256);
-    m[DZ_M_FLAGS] = below(2) ? 0x0200 : below(65536);
+    m[DZ_M_DOMAIN] = one_in(16) ? below(256) : own_domain;
+    m[DZ_M_FLAGS] = one_in(2) ? DZ_FLAG_TWO_STEP : below(65536);
     m[DZ_M_CORRECTION] = edge();
-    m[DZ_M_CLOCK] = below(10) ? 1 + below(30) : own_clock;
+    m[DZ_M_CLOCK] = one_in(20) ? own_clock : 1 + below(20);
     m[DZ_M_PORT] = 1 + below(2);
-    m[DZ_M_SEQUENCE] = below(4) ? now / 20000000 % 65536 : below(65536);
-    m[DZ_M_INTERVAL] = below(2) ? below(128) : -below(129);
-    m[DZ_M_SECONDS] = below(1ul << 48);
+    m[DZ_M_SEQUENCE] = one_in(5) ? below(65536) : calls / 8 % 65536;
+    m[DZ_M_INTERVAL] = cut(any(), SIGNED | 8);
+    m[DZ_M_SECONDS] = cut(edge(), 48);
     m[DZ_M_NANOS] = below(1000000000);
-    if (m[DZ_M_TYPE] == DZ_SIGNALING) m[DZ_M_TARGET_PORT] %= 65536;
-    if (m[DZ_M_TYPE] == DZ_DELAY_RESP) m[DZ_M_REQUESTER_CLOCK] = any(), m[DZ_M_REQUESTER_PORT] = below(65536);
-    if (m[DZ_M_TYPE] == DZ_ANNOUNCE) {
-        m[DZ_M_UTC] = below(2) ? below(32768) : -below(32769);
+    if (type == DZ_SIGNALING) m[DZ_M_TARGET_CLOCK] = edge(), m[DZ_M_TARGET_PORT] = below(65536);
+    if (type == DZ_DELAY_RESP) m[DZ_M_REQUESTER_PORT] = below(65536);
+    if (type == DZ_ANNOUNCE) {
+        m[DZ_M_UTC] = cut(any(), SIGNED | 16);
         for (int i = DZ_M_PRIORITY1; i <= DZ_M_PRIORITY2; i++) m[i] = below(3);
         m[DZ_M_GRANDMASTER] = 1 + below(5);
         m[DZ_M_STEPS] = below(3);
         m[DZ_M_SOURCE] = below(256);
+        if (one_in(2)) { /* a sender that says the same on each port that hears it */
+            for (int i = DZ_M_PRIORITY1; i <= DZ_M_PRIORITY2; i++) m[i] = 0;
+            m[DZ_M_GRANDMASTER] = m[DZ_M_STEPS] = m[DZ_M_CLOCK] % 3;
+        }
     }
 }
 
-/* A tail of some TLVs, White Rabbit's among them. */
+static uint64_t any_type(void)
+{
+    static const uint8_t types[] = {DZ_SYNC, DZ_DELAY_REQ, DZ_FOLLOW_UP, DZ_DELAY_RESP, DZ_ANNOUNCE, DZ_SIGNALING};
+    return types[below(sizeof types)];
+}
+
+/* A tail of some TLVs, White Rabbit's suffix among them. */
 static size_t any_tail(uint8_t *t)
 {
     size_t n = 0;
-    for (int k = below(4); k > 0; k--) {
-        if (below(2)) {
-            dz_write_suffix(any(), magic, t + n);
-            n += 14;
+    for (uint64_t k = below(4); k > 0; k--) {
+        if (one_in(2)) {
+            dz_write_suffix((uint16_t)any(), magic, t + n);
+            n += DZ_SUFFIX_OCTETS;
         } else {
             size_t l = 2 * below(12);
-            t[n] = 0, t[n + 1] = below(8), t[n + 2] = 0, t[n + 3] = l;
-            for (size_t i = 0; i < l; i++) t[n + 4 + i] = any();
+            t[n] = 0, t[n + 1] = (uint8_t)below(8), t[n + 2] = 0, t[n + 3] = (uint8_t)l;
+            for (size_t i = 0; i < l; i++) t[n + 4 + i] = (uint8_t)any();
             n += 4 + l;
         }
     }
     return n;
 }
 
-/* A message in octets: whole, with an octet changed, cut short, or any octets at all. */
-static size_t any_octets(int b)
+/* A link message in words, that can be written; those that it does not carry are not looked at. */
+static void any_link(uint64_t *l)
 {
-    uint64_t m[DZ_MESSAGE_WORDS], link[DZ_LINK_MESSAGE_WORDS] = {0}, n[1] = {0};
-    uint8_t tail[200];
-    any_message(m);
-    if (m[DZ_M_TYPE] == DZ_SIGNALING && below(2)) {
-        link[DZ_L_NUMBER] = DZ_SLAVE_PRESENT + below(6);
-        dz_write_link(octets(b), ROOM, m, link, magic, n);
-        if (!below(4)) octets(b)[55] = below(8); /* another number, whose data have another size */
-    } else {
-        dz_write(octets(b), ROOM, m, tail, any_tail(tail), magic, n);
-    }
-    expect(n[0] != 0, "a message that can be written was refused");
-    if (!below(3)) octets(b)[below(n[0])] = any();
-    if (!below(8)) octets(b)[below(2) ? 1 : 3] = any();
-    if (!below(20)) return below(n[0] + 1);
-    if (!below(100)) fill(b);
-    return n[0] + below(4);
+    fill(l, DZ_LINK_MESSAGE_WORDS);
+    l[DZ_L_NUMBER] = DZ_LINK_SLAVE_PRESENT + below(6);
+    if (l[DZ_L_NUMBER] == DZ_LINK_CALIBRATE) l[DZ_L_PATTERN] = below(256), l[DZ_L_RETRY] = below(256), l[DZ_L_PERIOD] = cut(any(), 32);
 }
 
-/* A candidate, mostly one of few, so that ties are frequent. */
+static size_t fixed_size(uint64_t type)
+{
+    return type == DZ_ANNOUNCE ? 64 : type == DZ_DELAY_RESP ? 54 : 44;
+}
+
+/* A message in octets, whole; padding may follow it. */
+static size_t whole_frame(enum box b, uint64_t type)
+{
+    uint64_t m[DZ_MESSAGE_WORDS], link[DZ_LINK_MESSAGE_WORDS], n = 0;
+    uint8_t tail[256];
+    any_message(m, type);
+    any_link(link);
+    if (type == DZ_SIGNALING && one_in(2)) dz_write_link(octets(b), OCTETS, m, link, magic, &n);
+    else dz_write(octets(b), OCTETS, m, tail, any_tail(tail), magic, &n);
+    expect(n != 0, "a message that can be written was refused");
+    return n + below(4);
+}
+
+/* The same with an octet changed, cut short, or any octets at all. */
+static size_t damaged_frame(enum box b, uint64_t type)
+{
+    size_t n = whole_frame(b, type);
+    uint8_t *o = octets(b), *tlv = o + fixed_size(type);
+    switch (below(7)) {
+    case 0: return below(n + 1);
+    case 1: fill(words(b), OCTETS / 8); break;
+    case 2: change_octet(o, 4); break; /* type, version, messageLength */
+    case 3: change_octet(o + 40, 4); break; /* nanoseconds */
+    case 4: tlv[3] = (uint8_t)below(32); break; /* the first TLV's length */
+    case 5: tlv[10] = 0x10, tlv[11] = (uint8_t)below(6); break; /* White Rabbit's message number there, whose data may have another size */
+    default: change_octet(o, n);
+    }
+    return n;
+}
+
+static size_t any_frame(enum box b, uint64_t type)
+{
+    return one_in(3) ? damaged_frame(b, type) : whole_frame(b, type);
+}
+
+/* A candidate that can be ranked, mostly one of few, so that ties are frequent. */
 static void any_candidate(uint64_t *c)
 {
-    for (int i = 0; i < DZ_CANDIDATE_WORDS; i++) c[i] = below(20) ? below(2) : edge();
-    c[DZ_C_PORT] = below(60) ? 1 + below(18) : edge();
+    for (int i = 0; i < DZ_CANDIDATE_WORDS; i++) c[i] = one_in(20) ? cut(edge(), candidate_bits[i]) : below(2);
+    c[DZ_C_PORT] = 1 + below(DZ_PORTS);
 }
 
-/* ---- the calls ----------------------------------------------------------------------------------------------------------------- */
+static void any_run(size_t n)
+{
+    for (size_t i = 0; i < n; i++) any_candidate(words(RUN) + i * DZ_CANDIDATE_WORDS);
+}
+
+/* Our own quality: a grandmaster's class now and then. */
+static void any_own(void)
+{
+    static const uint64_t plain[DZ_OWN_WORDS] = DZ_OWN_DEFAULT(77);
+    memcpy(words(OWN), plain, sizeof plain);
+    for (int i = 0; i < DZ_OWN_WORDS; i++)
+        if (one_in(6)) words(OWN)[i] = cut(one_in(2) ? below(3) : edge(), own_bits[i]);
+}
+
+/* Words past a list's count say nothing. */
+static void forget_the_rest(enum box list)
+{
+    for (size_t i = words(list)[DZ_LIST_COUNT]; i < DZ_LIST_CANDIDATES; i++) fill(words(list) + DZ_LIST_AT(i), DZ_CANDIDATE_WORDS);
+}
+
+/* A ranked list that is one no longer, or that has a word too wide. */
+static void damage_list(enum box b)
+{
+    uint64_t *list = words(b), count = list[DZ_LIST_COUNT] % (DZ_LIST_CANDIDATES + 1), *c = list + DZ_LIST_AT(below(count ? count : 1));
+    switch (below(6)) {
+    case 0: list[DZ_LIST_COUNT] = one_in(2) ? 5 + below(3) : edge(); break;
+    case 1: c[DZ_C_PORT] = any_port(); break;
+    case 2: memcpy(c, list + DZ_LIST_FIRST, DZ_CANDIDATE_WORDS * 8); break;
+    case 3: if (count) set_to_edge(c, DZ_CANDIDATE_WORDS); break;
+    default: if (count) widen(c, candidate_bits, DZ_CANDIDATE_WORDS);
+    }
+}
+
+/* ---- what is tried ------------------------------------------------------------------------------------------------------------- */
 
 /* A call on a port's words leaves the other ports' as they were. */
-static void own_words_only(int b, uint8_t port, size_t each)
+static void expect_own_words(enum box b, uint64_t port, size_t all)
 {
-    for (size_t i = 0; i < 18 * each; i++) expect(i / each + 1 == port || words(b)[i] == was[b][FRONT + i], "another port's words have changed");
+    size_t each = all / DZ_PORTS, from = (port - 1) * each, to = from + each;
+    expect(same_words(words(b), words_before(b), from) && same_words(words(b) + to, words_before(b) + to, all - to), "another port's words have changed");
 }
 
-static void try_records(void)
+/* Whether a time lies no further back than four intervals of a port. */
+static int is_recent(uint64_t port, uint64_t t, uint64_t then)
 {
-    uint8_t port = below(2) ? 1 + below(2) : any_port();
-    uint64_t t = below(10) ? now += below(30000000) : below(2) ? now - below(1000000000) : edge();
-    size_t n = any_octets(IN), slot = below(18), changed = 0;
-    begin("dz_take");
-    may[PORTS] = DZ_PORTS_WORDS * 8;
-    if (end(dz_take(words(PORTS), port, t, octets(IN), n, 0, own_clock, magic), READING | CAN(8) | CAN(9) | CAN(10) | CAN(11) | CAN(12) | CAN(13)) == 0) {
-        own_words_only(PORTS, port, 98);
-        for (int i = 0; i < DZ_PORTS_WORDS; i++) changed += words(PORTS)[i] != was[PORTS][FRONT + i];
-        expect(changed <= 7, "more than one record and one time have changed");
+    uint64_t told[DZ_STATUS_WORDS] = {0};
+    dz_status(words(PORTS), port, told);
+    return t < then || t - then <= (uint64_t)500000000 << (told[DZ_STATUS_INTERVAL] + 3);
+}
+
+/* The slot that a sender's record has, or that a new one would get; DZ_SLOTS where there is none. */
+static size_t slot_for(uint64_t port, uint64_t t, const uint64_t *m, uint64_t r[DZ_RECORD_WORDS])
+{
+    size_t slot;
+    for (slot = 0; slot < DZ_SLOTS; slot++) {
+        dz_record(words(PORTS), port, slot, r);
+        if (r[DZ_R_HELD] && r[DZ_R_SENDER_CLOCK] == m[DZ_M_CLOCK] && r[DZ_R_SENDER_PORT] == m[DZ_M_PORT]) return slot;
     }
-    begin("dz_status");
-    may[FIRST] = 16;
-    if (end(dz_status(words(PORTS), port, words(FIRST)), 1u | CAN(8)) == 0) expect((int64_t)words(FIRST)[1] >= -3 && (int64_t)words(FIRST)[1] <= 4, "an interval out of range");
-    begin("dz_record");
-    may[FIRST] = DZ_RECORD_WORDS * 8;
-    if (end(dz_record(words(PORTS), port, slot, words(FIRST)), 1u | CAN(8)) == 0 && slot > 15) expect(words(FIRST)[DZ_R_HELD] == 0, "a record past the last slot");
-    begin("dz_candidate");
-    may[FIRST] = DZ_FOUND_WORDS * 8;
-    if (end(dz_candidate(words(PORTS), port, slot, t, words(FIRST)), ASKING) == 0 && words(FIRST)[0]) expect(words(FIRST)[1 + DZ_C_PORT] == port, "a candidate of another port");
-    if (!below(50)) {
-        begin("dz_set_interval");
-        may[PORTS] = DZ_PORTS_WORDS * 8;
-        if (end(dz_set_interval(words(PORTS), port, below(10) - 4), 1u | CAN(8) | CAN(18)) == 0) own_words_only(PORTS, port, 98);
+    for (slot = 0; slot < DZ_SLOTS; slot++) {
+        dz_record(words(PORTS), port, slot, r);
+        if (!r[DZ_R_HELD] || !is_recent(port, t, r[DZ_R_NEWEST])) break;
     }
+    memset(r, 0, DZ_RECORD_WORDS * 8);
+    return slot;
+}
+
+/* What taking the Announce of some words must answer, by what the port tells of itself and of its slot. */
+static dz_answer intake(const uint64_t *m, uint64_t port, uint64_t t, size_t slot, const uint64_t r[DZ_RECORD_WORDS])
+{
+    if (m[DZ_M_TYPE] != DZ_ANNOUNCE) return DZ_REFUSED_TYPE;
+    if (m[DZ_M_DOMAIN] != own_domain) return DZ_REFUSED_DOMAIN;
+    if (m[DZ_M_CLOCK] == own_clock) return DZ_REFUSED_OWN;
+    if (t < last_of(port)) return DZ_REFUSED_BACKWARD;
+    if (slot == DZ_SLOTS) return DZ_REFUSED_FULL;
+    if (!r[DZ_R_HELD] || !is_recent(port, t, r[DZ_R_NEWEST])) return DZ_OK;
+    return (m[DZ_M_SEQUENCE] - r[DZ_R_SEQUENCE] - 1) % 65536 < 32767 ? DZ_OK : DZ_REFUSED_STALE;
+}
+
+/* The record in a slot after an Announce was taken: what was read of it, and the receipts. */
+static void expect_taken(const uint64_t *m, uint64_t flags, uint64_t port, uint64_t t, size_t slot, const uint64_t was[DZ_RECORD_WORDS])
+{
+    const uint64_t *r = words(RECORD);
+    int again = was[DZ_R_HELD] && is_recent(port, t, was[DZ_R_NEWEST]);
+    record(port, slot);
+    expect(r[DZ_R_HELD] == 1 && r[DZ_R_SENDER_CLOCK] == m[DZ_M_CLOCK] && r[DZ_R_SENDER_PORT] == m[DZ_M_PORT] && r[DZ_R_SEQUENCE] == m[DZ_M_SEQUENCE], "a record of another sender");
+    expect(r[DZ_R_NEWEST] == t && r[DZ_R_OLDER] == (again ? was[DZ_R_NEWEST] : 0) && r[DZ_R_RECEIPTS] == (again ? 2 : 1), "other receipts");
+    expect(same_words(r + DZ_R_PRIORITY1, m + DZ_M_PRIORITY1, DZ_M_STEPS - DZ_M_PRIORITY1 + 1) && r[DZ_R_WRFLAGS] == flags, "a record of other data");
+}
+
+static void put(uint8_t *o, size_t n, uint64_t w)
+{
+    while (n > 0) o[--n] = (uint8_t)w, w >>= 8;
+}
+
+/* Makes the frame one of a sender that the port has a record of, its number at an edge of what is newer. */
+static void repeat_sender(uint64_t port)
+{
+    static const uint16_t ahead[] = {0, 1, 2, 32766, 32767, 32768, 65535};
+    uint64_t r[DZ_RECORD_WORDS] = {0};
+    dz_record(words(PORTS), port, below(DZ_SLOTS), r);
+    if (!r[DZ_R_HELD]) return;
+    put(octets(FRAME) + 20, 8, r[DZ_R_SENDER_CLOCK]);
+    put(octets(FRAME) + 28, 2, r[DZ_R_SENDER_PORT]);
+    put(octets(FRAME) + 30, 2, r[DZ_R_SEQUENCE] + ahead[below(sizeof ahead / sizeof *ahead)]);
+}
+
+/* An Announce is taken as reading it and the port's records say. */
+static void try_taking(void)
+{
+    uint64_t port = one_in(2) ? 1 + below(2) : any_port(), t = any_time(), m[DZ_MESSAGE_WORDS], was[DZ_RECORD_WORDS] = {0}, flags;
+    size_t n = any_frame(FRAME, one_in(12) ? any_type() : DZ_ANNOUNCE), slot = 0;
+    if (one_in(3)) repeat_sender(port);
+    dz_answer right = read_frame(FRAME, n);
+    memcpy(m, words(MESSAGE), sizeof m);
+    flags = suffix(n) == DZ_OK ? words(FOUND)[DZ_FOUND_WRFLAGS] : 0;
+    if (!is_port(port)) right = DZ_REFUSED_PORT;
+    if (right == DZ_OK) slot = slot_for(port, t, m, was), right = intake(m, port, t, slot, was);
+    if (must_be(take(port, t, n), right) != DZ_OK) return;
+    expect_own_words(PORTS, port, DZ_PORTS_WORDS);
+    expect_taken(m, flags, port, t, slot, was);
+    expect(last_of(port) == t, "another last accepted time");
+}
+
+/* Announces in a row, as they come. */
+static void try_announces(void)
+{
+    for (uint64_t n = 1 + below(16); n > 0; n--) try_taking();
+}
+
+/* A port's slots, asked in each way that there is, tell the same. */
+static void try_slots(void)
+{
+    uint64_t port = one_in(2) ? 1 + below(2) : any_port(), t = one_in(2) && is_port(port) ? last_of(port) + below(2000000000) : any_time();
+    size_t slot = one_in(8) ? (size_t)edge() : below(DZ_SLOTS + 2);
+    const uint64_t *r = words(RECORD), *c = words(FOUND) + DZ_FOUND_CANDIDATE;
+    if (status(port) != DZ_OK) return;
+    expect((int64_t)words(FOUND)[DZ_STATUS_INTERVAL] >= -3 && (int64_t)words(FOUND)[DZ_STATUS_INTERVAL] <= 4, "an interval out of range");
+    record(port, slot);
+    expect(slot < DZ_SLOTS || !r[DZ_R_HELD], "a record past the last slot");
+    for (int i = 0; i < DZ_RECORD_WORDS; i++) expect(r[DZ_R_HELD] || !r[i], "words of a record that is none");
+    if (candidate(port, slot, t) != DZ_OK) return;
+    for (int i = 0; i < DZ_FOUND_WORDS; i++) expect(words(FOUND)[DZ_FOUND] || !words(FOUND)[i], "words of a candidate that is none");
+    expect(words(FOUND)[DZ_FOUND] == (r[DZ_R_RECEIPTS] > 1 && is_recent(port, t, r[DZ_R_OLDER])), "a candidate without a qualified record, or none with one");
+    if (!words(FOUND)[DZ_FOUND]) return;
+    expect(c[DZ_C_PORT] == port && c[DZ_C_SENDER_CLOCK] == r[DZ_R_SENDER_CLOCK] && c[DZ_C_SENDER_PORT] == r[DZ_R_SENDER_PORT], "a candidate of another port or sender");
+    expect(same_words(c + DZ_C_PRIORITY1, r + DZ_R_PRIORITY1, DZ_C_STEPS - DZ_C_PRIORITY1 + 1) && c[DZ_C_WRFLAGS] == r[DZ_R_WRFLAGS], "a candidate of other data than its record");
+}
+
+static void try_intervals(void)
+{
+    uint64_t port = any_port();
+    int8_t k = (int8_t)(one_in(4) ? any() : below(8) - 3);
+    if (set_interval(port, k) != DZ_OK) return;
+    expect_own_words(PORTS, port, DZ_PORTS_WORDS);
+    status(port);
+    expect((int64_t)words(FOUND)[DZ_STATUS_INTERVAL] == k, "another interval than the one that was set");
 }
 
 /* The best of a port is the first of the ranked list of its candidates. */
 static void try_best(void)
 {
-    uint8_t port = any_port();
+    uint64_t port = any_port(), t = one_in(2) && is_port(port) ? last_of(port) : any_time();
     size_t n = 0;
-    begin("dz_best");
-    may[FIRST] = DZ_FOUND_WORDS * 8;
-    if (end(dz_best(words(PORTS), port, now, words(FIRST)), ASKING) != 0) return;
-    for (size_t slot = 0; slot < 16; slot++) {
-        dz_candidate(words(PORTS), port, slot, now, words(THIRD));
-        if (words(THIRD)[0]) memcpy(words(IN) + DZ_CANDIDATE_WORDS * n++, words(THIRD) + 1, DZ_CANDIDATE_WORDS * 8);
+    if (best(port, t) != DZ_OK) return;
+    for (size_t slot = 0; slot < DZ_SLOTS; slot++) {
+        candidate(port, slot, t);
+        if (words(FOUND)[DZ_FOUND]) memcpy(words(RUN) + DZ_CANDIDATE_WORDS * n++, words(FOUND) + DZ_FOUND_CANDIDATE, DZ_CANDIDATE_WORDS * 8);
     }
-    begin("dz_rank");
-    may[SECOND] = DZ_LIST_WORDS * 8;
-    end(dz_rank(words(IN), n * DZ_CANDIDATE_WORDS, words(SECOND)), 1u);
-    expect(words(FIRST)[0] == (n > 0) && words(SECOND)[0] == (n > 0), "a best without a candidate, or none with one");
-    expect(!memcmp(words(FIRST) + 1, words(SECOND) + 1, DZ_CANDIDATE_WORDS * 8), "the best is not the first of the ranked list");
+    rank(0, n, LIST);
+    expect(words(BEST)[DZ_FOUND] == (n > 0) && words(LIST)[DZ_LIST_COUNT] == (n > 0), "a best without a candidate, or none with one");
+    expect(same_words(words(BEST) + DZ_FOUND_CANDIDATE, words(LIST) + DZ_LIST_FIRST, DZ_CANDIDATE_WORDS), "the best is not the first of the ranked list");
 }
 
 /* Every port's decision in one call is that of the pieces: each port's best, the ranked list of them, each port decided; and the
    parent is on the port that is told S1. */
+static void try_deciding_all(void)
+{
+    uint64_t t = one_in(4) ? any_time() : present(), found[DZ_FOUND_WORDS], followed = 0;
+    size_t n = 0;
+    any_own();
+    if (one_in(8)) widen(words(OWN), own_bits, DZ_OWN_WORDS);
+    if (decide_all(t) != DZ_OK) return;
+    for (uint64_t p = 1; p <= DZ_PORTS; p++) {
+        dz_best(words(PORTS), p, t, found);
+        if (found[DZ_FOUND]) memcpy(words(RUN) + DZ_CANDIDATE_WORDS * n++, found + DZ_FOUND_CANDIDATE, DZ_CANDIDATE_WORDS * 8);
+    }
+    rank(0, n, OTHER);
+    expect(same_words(words(LIST), words(OTHER), DZ_LIST_WORDS), "the list is not the ranked list of the ports' bests");
+    forget_the_rest(LIST);
+    parent();
+    memcpy(found, words(FOUND), sizeof found);
+    expect(!found[DZ_FOUND] || same_words(found + DZ_FOUND_CANDIDATE, words(LIST) + DZ_LIST_FIRST, DZ_CANDIDATE_WORDS), "the parent is not the first of the list");
+    for (uint64_t p = 1; p <= DZ_PORTS; p++) {
+        best(p, t);
+        words(BEST)[DZ_FOUND_CANDIDATE + DZ_C_PORT] = any(); /* is not looked at */
+        decide(p);
+        expect(octets(DECISIONS)[p - 1] == words(ANSWER)[0], "a port is decided otherwise alone");
+        if (words(ANSWER)[0] == DZ_S1) followed++, expect(found[DZ_FOUND_CANDIDATE + DZ_C_PORT] == p, "the parent is on another port than S1");
+    }
+    expect(found[DZ_FOUND] == followed, "a parent without S1, or S1 without a parent");
+}
+
+/* A decision by words of every kind: ranked lists and others, words that fit and words that do not. */
 static void try_deciding(void)
 {
-    uint64_t best[18][DZ_FOUND_WORDS], list[DZ_LIST_WORDS], decision[1];
-    size_t n = 0;
-    int followed = 0, late = 0;
-    for (int i = 0; i < DZ_OWN_WORDS; i++) words(IN)[i] = below(4) ? 128 : edge();
-    for (int p = 1; p <= 18; p++) {
-        late |= dz_best(words(PORTS), p, now, best[p - 1]) == DZ_BACKWARD;
-        if (!late && best[p - 1][0]) memcpy(words(MORE) + DZ_CANDIDATE_WORDS * n++, best[p - 1] + 1, DZ_CANDIDATE_WORDS * 8);
-    }
-    begin("dz_decide_all");
-    may[OUT] = 18, may[FIRST] = DZ_LIST_WORDS * 8;
-    unsigned code = end(dz_decide_all(words(PORTS), now, words(IN), octets(OUT), words(FIRST)), 1u | CAN(11));
-    expect((code == DZ_BACKWARD) == late, "11 without a late port, or a late port without 11");
-    if (code) return;
-    dz_rank(words(MORE), n * DZ_CANDIDATE_WORDS, list);
-    expect(!memcmp(list, words(FIRST), sizeof list), "the list is not the ranked list of the ports' bests");
-    begin("dz_parent");
-    may[SECOND] = DZ_FOUND_WORDS * 8;
-    end(dz_parent(words(IN), words(FIRST), words(SECOND)), 1u);
-    for (int p = 1; p <= 18; p++) {
-        dz_decide(words(IN), list, p, best[p - 1], decision);
-        expect(octets(OUT)[p - 1] == decision[0], "a port is decided otherwise alone");
-        if (decision[0] == DZ_S1) followed++, expect(words(SECOND)[1 + DZ_C_PORT] == (uint64_t)p, "the parent is on another port than S1");
-    }
-    expect(words(SECOND)[0] == (uint64_t)followed, "a parent without S1, or S1 without a parent");
-}
-
-static void try_reading(void)
-{
-    size_t n = any_octets(IN), m = any_octets(MORE);
-    begin("dz_read");
-    may[FIRST] = DZ_MESSAGE_WORDS * 8, may[SECOND] = 16;
-    unsigned code = end(dz_read(octets(IN), n, magic, words(FIRST), words(SECOND)), READING);
-    if (code == 0) {
-        size_t at = words(SECOND)[0], l = words(SECOND)[1];
-        expect(at + l <= n, "a tail past the end");
-        uint64_t read[DZ_MESSAGE_WORDS];
-        memcpy(read, words(FIRST), sizeof read);
-        memcpy(words(THIRD), octets(IN) + at, l);
-        begin("dz_write of what was read");
-        may[OUT] = at + l, may[SECOND] = 8;
-        expect(end(dz_write(octets(OUT), ROOM, words(FIRST), octets(THIRD), l, magic, words(SECOND)), 1u) == 0 && words(SECOND)[0] == at + l, "what was read cannot be written");
-        begin("dz_read of what was written");
-        may[FIRST] = DZ_MESSAGE_WORDS * 8, may[SECOND] = 16;
-        expect(end(dz_read(octets(OUT), at + l, magic, words(FIRST), words(SECOND)), 1u) == 0 && !memcmp(read, words(FIRST), sizeof read), "reading what was written gives another message");
-        expect(!memcmp(octets(OUT) + at, octets(THIRD), l), "another tail");
-    }
-    begin("dz_lookup");
-    may[FIRST] = 24;
-    unsigned same = end(dz_lookup(octets(IN), n, below(8), magic, words(FIRST)), READING);
-    expect(same == code, "looking up refuses another message than reading");
-    if (same == 0) expect(words(FIRST)[1] + words(FIRST)[2] <= n && (words(FIRST)[0] || !(words(FIRST)[1] | words(FIRST)[2])), "data past the end");
-    begin("dz_suffix");
-    may[FIRST] = 16;
-    same = end(dz_suffix(octets(IN), n, magic, words(FIRST)), READING);
-    expect(code ? same == code : same == 0 || same == 3, "the suffix of a message that is refused");
-    if (same == 0) expect(words(FIRST)[1] < 16, "wrFlags past 15");
-    begin("dz_link_message");
-    may[FIRST] = (1 + DZ_LINK_MESSAGE_WORDS) * 8;
-    same = end(dz_link_message(octets(IN), n, magic, words(FIRST)), READING);
-    expect(code ? same == code : same == 0 || same == 3, "the link message of a message that is refused");
-    begin("dz_origin");
-    may[FIRST] = 16;
-    if (end(dz_origin(octets(IN), n, octets(MORE), m, magic, words(FIRST)), READING) == 0) expect(words(FIRST)[0] < 1ul << 48 && words(FIRST)[1] < 1000000000, "an origin time out of form");
-}
-
-static void try_writing(void)
-{
-    any_message(words(FIRST));
-    if (below(2)) words(FIRST)[below(DZ_MESSAGE_WORDS)] = edge();
-    size_t room = below(200), t = any_tail(octets(IN));
-    if (!below(8)) octets(IN)[below(8)] = any();
-    begin("dz_write");
-    may[OUT] = room, may[SECOND] = 8;
-    if (end(dz_write(octets(OUT), room, words(FIRST), octets(IN), t, magic, words(SECOND)), 1u | CAN(16) | CAN(18)) == 0) {
-        may[OUT] = words(SECOND)[0];
-        expect(words(SECOND)[0] <= room && !memcmp(octets(OUT) + words(SECOND)[0], (uint8_t *)(was[OUT] + FRONT) + words(SECOND)[0], room - words(SECOND)[0]), "octets past the message have changed");
-        uint64_t m[DZ_MESSAGE_WORDS];
-        memcpy(m, words(FIRST), sizeof m);
-        /* words that the type has no field for were not looked at */
-        size_t fields = m[DZ_M_TYPE] == DZ_ANNOUNCE ? DZ_MESSAGE_WORDS : m[DZ_M_TYPE] == DZ_DELAY_RESP ? DZ_M_REQUESTER_PORT + 1 : DZ_M_NANOS + 1;
-        expect(dz_read(octets(OUT), words(SECOND)[0], magic, words(FIRST), words(SECOND)) == 0 && !memcmp(m, words(FIRST), fields * 8), "what was written is read as another message");
-    }
-    for (int i = 0; i < DZ_LINK_MESSAGE_WORDS; i++) words(MORE)[i] = below(6) ? 0 : edge();
-    words(MORE)[DZ_L_NUMBER] = DZ_SLAVE_PRESENT + below(7);
-    begin("dz_write_link");
-    may[OUT] = room, may[SECOND] = 8;
-    end(dz_write_link(octets(OUT), room, words(FIRST), words(MORE), magic, words(SECOND)), 1u | CAN(16) | CAN(18));
-    begin("dz_write_suffix");
-    may[OUT] = 14;
-    end(dz_write_suffix(any(), magic, octets(OUT)), 1u);
+    uint64_t port = any_port(), decision;
+    size_t n = below(8);
+    any_own();
+    any_run(n + 1);
+    rank(0, n, LIST);
+    forget_the_rest(LIST);
+    words(BEST)[DZ_FOUND] = below(3);
+    memcpy(words(BEST) + DZ_FOUND_CANDIDATE, words(RUN) + n * DZ_CANDIDATE_WORDS, DZ_CANDIDATE_WORDS * 8);
+    words(BEST)[DZ_FOUND_CANDIDATE + DZ_C_PORT] = edge();
+    if (one_in(3)) damage_list(LIST);
+    if (one_in(8)) widen(words(OWN), own_bits, DZ_OWN_WORDS);
+    if (one_in(8)) widen(words(BEST) + DZ_FOUND_CANDIDATE, candidate_bits, DZ_CANDIDATE_WORDS);
+    parent();
+    if (decide(port) != DZ_OK) return;
+    decision = words(ANSWER)[0];
+    words(BEST)[DZ_FOUND_CANDIDATE + DZ_C_PORT] = edge();
+    if (words(BEST)[DZ_FOUND] == 0) fill(words(BEST) + DZ_FOUND_CANDIDATE, DZ_CANDIDATE_WORDS);
+    forget_the_rest(LIST);
+    decide(port);
+    expect(words(ANSWER)[0] == decision, "words that are not looked at have changed a decision");
 }
 
 /* Ranking two runs and merging gives the ranked list of both together; a list merged with itself is itself. */
 static void try_ranking(void)
 {
-    size_t n = below(30) ? below(20) : below(160), m = below(30) ? below(20) : below(160);
-    for (size_t i = 0; i < n + m && i < 160; i++) any_candidate(words(IN) + i * DZ_CANDIDATE_WORDS);
-    if (n + m > 160) m = 160 - n;
-    begin("dz_rank");
-    may[FIRST] = DZ_LIST_WORDS * 8;
-    unsigned a = end(dz_rank(words(IN), n * DZ_CANDIDATE_WORDS + below(DZ_CANDIDATE_WORDS), words(FIRST)), 1u | CAN(8));
-    begin("dz_rank");
-    may[SECOND] = DZ_LIST_WORDS * 8;
-    unsigned b = end(dz_rank(words(IN) + n * DZ_CANDIDATE_WORDS, m * DZ_CANDIDATE_WORDS, words(SECOND)), 1u | CAN(8));
-    begin("dz_rank");
-    may[THIRD] = DZ_LIST_WORDS * 8;
-    expect((end(dz_rank(words(IN), (n + m) * DZ_CANDIDATE_WORDS, words(THIRD)), 1u | CAN(8)) == 0) == (a == 0 && b == 0), "ranking both refuses otherwise than each");
-    begin("dz_merge");
-    may[MORE] = DZ_LIST_WORDS * 8;
-    unsigned code = end(dz_merge(words(FIRST), words(SECOND), words(MORE)), 1u | CAN(15));
-    if (a == 0 && b == 0) expect(code == 0 && !memcmp(words(MORE), words(THIRD), DZ_LIST_WORDS * 8), "merging is not ranking together");
-    begin("dz_merge");
-    may[MORE] = DZ_LIST_WORDS * 8;
-    if (end(dz_merge(words(FIRST), words(FIRST), words(MORE)), 1u | CAN(15)) == 0 && a == 0) expect(!memcmp(words(MORE), words(FIRST), DZ_LIST_WORDS * 8), "a list merged with itself is another");
-    any_candidate(words(SECOND) + 1);
-    words(SECOND)[0] = below(3);
-    if (!below(10)) words(FIRST)[below(DZ_LIST_WORDS)] = edge();
-    begin("dz_decide");
-    may[OUT] = 8;
-    if (end(dz_decide(words(IN), words(FIRST), any_port(), words(SECOND), words(OUT)), 1u | CAN(8) | CAN(15)) == 0) expect(words(OUT)[0] >= DZ_M1 && words(OUT)[0] <= DZ_P2, "a decision that is none");
-    if (!below(200)) {
-        begin("dz_rank");
-        may[FIRST] = DZ_LIST_WORDS * 8;
-        expect(end(dz_rank(&was[0][0], 289 * DZ_CANDIDATE_WORDS, words(FIRST)), CAN(17)) == 17, "289 candidates are not too many");
+    size_t n = one_in(8) ? below(LONGEST_RUN) : below(20), m = one_in(8) ? LONGEST_RUN - n : 1 + below(20), all;
+    uint64_t *c;
+    if (n + m > LONGEST_RUN) m = LONGEST_RUN - n;
+    all = n + m;
+    any_run(all);
+    c = words(RUN) + below(all) * DZ_CANDIDATE_WORDS;
+    if (one_in(6)) c[DZ_C_PORT] = any_port();
+    if (one_in(6)) widen(words(RUN) + below(all) * DZ_CANDIDATE_WORDS, candidate_bits, DZ_CANDIDATE_WORDS);
+    if (one_in(3)) rank(0, DZ_PORTS * DZ_SLOTS + 1 + below(LONGEST_RUN - DZ_PORTS * DZ_SLOTS), MERGED); /* too many, whatever they are */
+    if (rank(0, n, LIST) != DZ_OK || rank(n, m, OTHER) != DZ_OK) return;
+    forget_the_rest(LIST);
+    forget_the_rest(OTHER);
+    merge(LIST, OTHER);
+    if (all <= DZ_PORTS * DZ_SLOTS) {
+        rank(0, all, TOGETHER);
+        expect(same_words(words(MERGED), words(TOGETHER), DZ_LIST_WORDS), "merging is not ranking together");
     }
+    merge(OTHER, OTHER);
+    expect(same_words(words(MERGED), words(OTHER), DZ_LIST_AT(words(OTHER)[DZ_LIST_COUNT])), "a list merged with itself is another");
+    damage_list(one_in(2) ? LIST : OTHER);
+    if (one_in(4)) damage_list(OTHER);
+    merge(LIST, OTHER);
 }
 
-/* A compared with B and B with A answer the same, the other way round. */
+/* A compared with B and B with A answer the same, the other way round; a set compared with itself is error-2. */
 static void try_comparing(void)
 {
     static const uint8_t mirror[] = {0, DZ_B_BETTER, DZ_A_BETTER, DZ_B_BETTER_BY_TOPOLOGY, DZ_A_BETTER_BY_TOPOLOGY, DZ_ERROR_1, DZ_ERROR_2};
-    any_candidate(words(FIRST));
-    any_candidate(words(SECOND));
-    if (below(2)) memcpy(words(FIRST), words(SECOND), DZ_C_STEPS * 8);
-    begin("dz_compare");
-    may[OUT] = 8, may[THIRD] = 8;
-    end(dz_compare(words(FIRST), words(SECOND), words(OUT)) | dz_compare(words(SECOND), words(FIRST), words(THIRD)), 1u);
-    expect(words(OUT)[0] >= DZ_A_BETTER && words(OUT)[0] <= DZ_ERROR_2 && mirror[words(OUT)[0]] == words(THIRD)[0], "the mirrored comparison answers otherwise");
+    uint64_t forth;
+    any_candidate(words(SET));
+    any_candidate(words(RIVAL));
+    words(SET)[DZ_S_RECEIVER_PORT] = below(4), words(RIVAL)[DZ_S_RECEIVER_PORT] = below(4);
+    if (one_in(2)) memcpy(words(SET), words(RIVAL), DZ_C_STEPS * 8);
+    if (one_in(6)) widen(words(one_in(2) ? SET : RIVAL), set_bits, DZ_SET_WORDS);
+    if (compare(SET, RIVAL) != DZ_OK) return;
+    forth = words(ANSWER)[0];
+    compare(RIVAL, SET);
+    expect(mirror[forth] == words(ANSWER)[0], "the mirrored comparison answers otherwise");
+    compare(SET, SET);
+    expect(words(ANSWER)[0] == DZ_ERROR_2, "a set is not as good as itself");
 }
 
+/* What was read can be written and is read again. */
+static void expect_round_trip(size_t at, size_t l)
+{
+    uint64_t read[DZ_MESSAGE_WORDS];
+    memcpy(read, words(MESSAGE), sizeof read);
+    memcpy(octets(TAIL), octets(FRAME) + at, l);
+    expect(write_frame(OCTETS, l) == DZ_OK && words(ANSWER)[0] == at + l, "what was read cannot be written");
+    expect(read_frame(OUT, at + l) == DZ_OK && same_words(read, words(MESSAGE), DZ_MESSAGE_WORDS), "reading what was written gives another message");
+    expect(!memcmp(octets(OUT) + at, octets(TAIL), l), "another tail");
+}
+
+/* All that reads a message refuses it as reading does, or answers what lies in it. */
+static void try_reading(void)
+{
+    size_t n = any_frame(FRAME, any_type());
+    dz_answer read = read_frame(FRAME, n), other;
+    uint64_t type = words(MESSAGE)[DZ_M_TYPE], at = words(FOUND)[DZ_TAIL_AT], l = words(FOUND)[DZ_TAIL_LENGTH];
+    uint16_t sought = (uint16_t)below(8);
+    if (read == DZ_OK) {
+        expect(at + l <= n, "a tail past the end");
+        expect_round_trip(at, l);
+    }
+    must_be(look_up(n, sought), read);
+    if (read == DZ_OK && words(FOUND)[DZ_FOUND]) {
+        const uint8_t *data = octets(FRAME) + words(FOUND)[DZ_FOUND_DATA_AT];
+        expect(words(FOUND)[DZ_FOUND_DATA_AT] + words(FOUND)[DZ_FOUND_DATA_LENGTH] <= at + l, "data past the end");
+        expect(data[-3] == sought && data[-1] == words(FOUND)[DZ_FOUND_DATA_LENGTH] % 256, "data of another TLV");
+    }
+    other = suffix(n);
+    must_be(other, read || type == DZ_ANNOUNCE ? read : DZ_REFUSED_TYPE);
+    if (other == DZ_OK) expect(words(FOUND)[DZ_FOUND_WRFLAGS] <= (DZ_WRFLAGS_CONFIG | DZ_WRFLAGS_CALIBRATED | DZ_WRFLAGS_MODE_ON), "wrFlags past 15");
+    must_be(link_message(FRAME, n), read || type == DZ_SIGNALING ? read : DZ_REFUSED_TYPE);
+}
+
+/* What asking for the origin time of a Sync must answer; `sync` are its words, those of the Follow_Up stand in MESSAGE. */
+static dz_answer origin_answer(dz_answer read, const uint64_t *sync, dz_answer read_follow)
+{
+    const uint64_t *follow = words(MESSAGE);
+    if (read != DZ_OK) return read;
+    if (sync[DZ_M_TYPE] != DZ_SYNC) return DZ_REFUSED_TYPE;
+    if (!(sync[DZ_M_FLAGS] & DZ_FLAG_TWO_STEP)) return DZ_OK;
+    if (read_follow != DZ_OK) return read_follow;
+    return follow[DZ_M_TYPE] == DZ_FOLLOW_UP && follow[DZ_M_CLOCK] == sync[DZ_M_CLOCK] && follow[DZ_M_PORT] == sync[DZ_M_PORT] && follow[DZ_M_DOMAIN] == sync[DZ_M_DOMAIN]
+        && follow[DZ_M_SEQUENCE] == sync[DZ_M_SEQUENCE] ? DZ_OK : DZ_REFUSED_TYPE;
+}
+
+/* The origin time is that of the Sync, or that of its Follow_Up. */
+static void try_origin(void)
+{
+    size_t n = any_frame(FRAME, one_in(8) ? any_type() : DZ_SYNC), k = any_frame(FOLLOW, one_in(8) ? any_type() : DZ_FOLLOW_UP);
+    uint64_t sync[DZ_MESSAGE_WORDS];
+    const uint64_t *from;
+    dz_answer read, read_follow;
+    if (!one_in(4)) memcpy(octets(FOLLOW) + 20, octets(FRAME) + 20, 12); /* sender and sequenceId */
+    if (!one_in(4)) octets(FOLLOW)[4] = octets(FRAME)[4]; /* domain */
+    read = read_frame(FRAME, n);
+    memcpy(sync, words(MESSAGE), sizeof sync);
+    read_follow = read_frame(FOLLOW, k);
+    if (must_be(origin(n, k), origin_answer(read, sync, read_follow)) != DZ_OK) return;
+    from = sync[DZ_M_FLAGS] & DZ_FLAG_TWO_STEP ? words(MESSAGE) : sync;
+    expect(words(FOUND)[DZ_STAMP_SECONDS] == from[DZ_M_SECONDS] && words(FOUND)[DZ_STAMP_NANOS] == from[DZ_M_NANOS], "the origin time of another message");
+}
+
+/* What was written into OUT is `length` octets and no more. */
+static void expect_written(size_t room, size_t length)
+{
+    expect(words(ANSWER)[0] == length, "another length");
+    expect(!memcmp(octets(OUT) + length, (const uint8_t *)words_before(OUT) + length, room - length), "octets past the message have changed");
+}
+
+static int is_message(const uint64_t *m)
+{
+    const uint8_t *bits = message_bits(m[DZ_M_TYPE]);
+    return bits && fits(m, bits, DZ_MESSAGE_WORDS) && (m[DZ_M_TYPE] == DZ_SIGNALING || m[DZ_M_NANOS] < 1000000000);
+}
+
+/* A message is written where its words fit and its tail is whole, and then it is read as it was. */
+static void try_writing(void)
+{
+    uint64_t m[DZ_MESSAGE_WORDS];
+    size_t room = one_in(4) ? below(200) : OCTETS, n = any_tail(octets(TAIL)), size;
+    int damaged = n > 0 && one_in(6);
+    any_message(words(MESSAGE), any_type());
+    if (one_in(6)) set_to_edge(words(MESSAGE), DZ_MESSAGE_WORDS);
+    if (one_in(6) && message_bits(words(MESSAGE)[DZ_M_TYPE])) widen(words(MESSAGE), message_bits(words(MESSAGE)[DZ_M_TYPE]), DZ_MESSAGE_WORDS);
+    if (damaged) change_octet(octets(TAIL), n);
+    memcpy(m, words(MESSAGE), sizeof m);
+    size = fixed_size(m[DZ_M_TYPE]) + n;
+    dz_answer answer = write_frame(room, n);
+    if (!is_message(m)) must_be(answer, DZ_REFUSED_FIELD);
+    else if (!damaged) must_be(answer, size > room ? DZ_REFUSED_ROOM : DZ_OK);
+    if (answer != DZ_OK) return;
+    expect_written(room, size);
+    for (int i = 0; i < DZ_MESSAGE_WORDS; i++)
+        if (!message_bits(m[DZ_M_TYPE])[i]) m[i] = 0;
+    expect(read_frame(OUT, size) == DZ_OK && same_words(m, words(MESSAGE), DZ_MESSAGE_WORDS), "what was written is read as another message");
+}
+
+/* The same for a Signaling with a link message, and for the suffix of an Announce. */
+static void try_writing_links(void)
+{
+    uint64_t l[DZ_LINK_MESSAGE_WORDS], flags = any() % 65536;
+    size_t room = one_in(4) ? below(100) : OCTETS, size;
+    any_message(words(MESSAGE), one_in(12) ? any_type() : DZ_SIGNALING);
+    any_link(words(LINK));
+    if (one_in(6)) set_to_edge(words(MESSAGE), DZ_MESSAGE_WORDS);
+    if (one_in(12)) words(LINK)[DZ_L_NUMBER] = one_in(2) ? edge() : DZ_LINK_SLAVE_PRESENT - 1 + below(8);
+    if (one_in(6) && link_bits(words(LINK)[DZ_L_NUMBER])) widen(words(LINK), link_bits(words(LINK)[DZ_L_NUMBER]), DZ_LINK_MESSAGE_WORDS);
+    memcpy(l, words(LINK), sizeof l);
+    const uint8_t *bits = link_bits(l[DZ_L_NUMBER]);
+    size = 44 + 12 + (l[DZ_L_NUMBER] == DZ_LINK_CALIBRATE ? 6 : l[DZ_L_NUMBER] == DZ_LINK_CALIBRATED ? 16 : 0);
+    int whole = words(MESSAGE)[DZ_M_TYPE] == DZ_SIGNALING && is_message(words(MESSAGE)) && bits && fits(l, bits, DZ_LINK_MESSAGE_WORDS);
+    if (must_be(write_link(room), !whole ? DZ_REFUSED_FIELD : size > room ? DZ_REFUSED_ROOM : DZ_OK) == DZ_OK) {
+        expect_written(room, size);
+        for (int i = 0; i < DZ_LINK_MESSAGE_WORDS; i++)
+            if (!bits[i]) l[i] = 0;
+        expect(link_message(OUT, size) == DZ_OK && words(FOUND)[DZ_FOUND] == 1 && same_words(l, words(FOUND) + DZ_FOUND_LINK_MESSAGE, DZ_LINK_MESSAGE_WORDS), "another link message");
+    }
+    write_suffix((uint16_t)flags);
+    expect(octets(OUT)[12] == 0 && octets(OUT)[13] == flags % 16, "other wrFlags");
+}
+
+/* An event of a link, mostly the one that brings it on, so that links come up. */
+static uint64_t any_event(uint64_t port)
+{
+    static const uint16_t onward[2][DZ_STATE_RESP_CALIB_REQ + 1] = {
+        [DZ_ROLE_SLAVE] = {START, DZ_LINK_LOCK, DZ_LINK_LOCKED, DONE, DZ_LINK_CALIBRATE, DONE, DZ_LINK_WR_MODE_ON, DZ_LINK_CALIBRATED},
+        [DZ_ROLE_MASTER] = {DZ_LINK_SLAVE_PRESENT, DZ_LINK_LOCK, DZ_LINK_LOCKED, DONE, DZ_LINK_CALIBRATE, DONE, DZ_LINK_CALIBRATE, DZ_LINK_CALIBRATED},
+    };
+    uint64_t told[DZ_STEP_WORDS] = {0};
+    dz_link_status(words(LINKS), port, told);
+    if (!one_in(4)) return onward[told[DZ_T_ROLE] % 2][told[DZ_T_STATE] % 8];
+    return one_in(2) ? DZ_LINK_SLAVE_PRESENT + below(7) : below(EVENTS);
+}
+
+/* A step leaves the link as its status tells it afterwards; other links stay. */
 static void try_links(void)
 {
-    uint8_t port = any_port();
-    unsigned code = 0;
-    begin("dz_link");
-    may[LINKS] = DZ_LINKS_WORDS * 8, may[FIRST] = DZ_STEP_WORDS * 8;
-    switch (below(8)) {
-    case 0: code = end(dz_link_start(words(LINKS), port, below(5), below(2), words(FIRST)), 1u | CAN(8)); break;
-    case 1: code = end(dz_link_done(words(LINKS), port, words(FIRST)), 1u | CAN(8)); break;
-    case 2: code = end(dz_link_timeout(words(LINKS), port, words(FIRST)), 1u | CAN(8)); break;
-    case 3: code = end(dz_link_stop(words(LINKS), port, words(FIRST)), 1u | CAN(8)); break;
-    case 4: end(dz_link_set(words(LINKS), port, below(5), below(3), any(), any(), any(), any()), 1u | CAN(8) | CAN(18)); return;
-    default: code = end(dz_link_take(words(LINKS), port, DZ_SLAVE_PRESENT + below(7), words(FIRST)), 1u | CAN(8));
-    }
-    if (code) return;
-    own_words_only(LINKS, port, 4);
-    expect(words(FIRST)[DZ_T_STATE] <= 7 && words(FIRST)[DZ_T_MODE] <= 1 && words(FIRST)[DZ_T_REPORT] <= 1 && words(FIRST)[DZ_T_SENDS] <= 2, "a step that is none");
-    expect(!words(FIRST)[DZ_T_REPORT] || (words(FIRST)[DZ_T_MODE] && words(FIRST)[DZ_T_STATE] == DZ_IDLE), "link on without the mode, or not in IDLE");
+    uint64_t port = one_in(2) ? 1 + below(2) : any_port();
+    const uint64_t *step = words(STEP), *told = words(FOUND);
+    if (one_in(6) && link_set(port, (uint8_t)below(6)) == DZ_OK) expect_own_words(LINKS, port, DZ_LINKS_WORDS);
+    if (link_event(port, any_event(port)) != DZ_OK) return;
+    expect_own_words(LINKS, port, DZ_LINKS_WORDS);
+    expect(step[DZ_T_STATE] <= DZ_STATE_RESP_CALIB_REQ && step[DZ_T_ROLE] <= DZ_ROLE_MASTER && step[DZ_T_MODE] <= 1 && step[DZ_T_REPORT] <= 1 && step[DZ_T_SENDS] <= 2, "a step that is none");
+    expect(!step[DZ_T_REPORT] || (step[DZ_T_MODE] && step[DZ_T_STATE] == DZ_STATE_IDLE), "link on without the mode, or not in IDLE");
+    for (uint64_t i = 0; i < 2; i++) expect((i < step[DZ_T_SENDS]) == (link_bits(step[(i ? DZ_T_SECOND : DZ_T_FIRST) + DZ_L_NUMBER]) != NULL), "more or fewer messages than their count");
+    link_status(port);
+    expect(same_words(told, step, DZ_T_REPORT), "the link is not as the step left it");
+    for (int i = DZ_T_REPORT; i < DZ_STEP_WORDS; i++) expect(told[i] == 0, "a link that is only looked at reports or sends");
 }
 
-/* The same exchange with both clocks' stamps moved by a second has the same delay and offset. */
+/* Numbers of 128 bits, negative ones as their two's complement. */
+typedef unsigned __int128 wide;
+
+static wide widened(uint64_t w)
+{
+    return (wide)(__int128)(int64_t)w;
+}
+
+/* Strictly between -2^bits and 2^bits. */
+static int is_within(wide x, int bits)
+{
+    return x + ((wide)1 << bits) - 1 < ((wide)1 << (bits + 1)) - 1;
+}
+
+/* A stamp of an exchange, in nanoseconds times 2^16. */
+static wide stamp(int seconds, uint64_t fraction)
+{
+    return ((wide)words(EXCHANGE)[seconds] * 1000000000 + words(EXCHANGE)[seconds + 1]) * 65536 + fraction;
+}
+
+static int is_in_limits(const uint64_t *x)
+{
+    return fits(x, exchange_bits, DZ_EXCHANGE_WORDS) && x[DZ_E_T1_NANOS] < 1000000000 && x[DZ_E_T2_NANOS] < 1000000000 && x[DZ_E_T3_NANOS] < 1000000000
+        && x[DZ_E_T4_NANOS] < 1000000000 && is_within(widened(x[DZ_E_SYNC]), 47) && is_within(widened(x[DZ_E_FOLLOW]), 47) && is_within(widened(x[DZ_E_RESP]), 47)
+        && is_within(widened(x[DZ_E_ASYMMETRY]), 39);
+}
+
+/* An exchange, mostly of stamps that lie near each other. */
+static void any_exchange(uint64_t *x)
+{
+    uint64_t t = below((uint64_t)1 << 47);
+    for (int i = 0; i < DZ_EXCHANGE_WORDS; i++) x[i] = one_in(30) ? edge() : below(exchange_bits[i] == 16 ? 65536 : 1000000);
+    if (!one_in(4)) x[DZ_E_T1_SECONDS] = x[DZ_E_T2_SECONDS] = x[DZ_E_T3_SECONDS] = x[DZ_E_T4_SECONDS] = t;
+    if (one_in(4)) x[DZ_E_ASYMMETRY] = cut(any(), SIGNED | 40);
+    if (one_in(4)) widen(x, exchange_bits, DZ_EXCHANGE_WORDS);
+}
+
+/* Delay and offset of an exchange within its limits make up t2 - t1; any other is refused. */
 static void try_measuring(void)
 {
-    for (int i = 0; i < DZ_EXCHANGE_WORDS; i++) words(FIRST)[i] = below(5) ? below(1000000) : edge();
-    if (below(4)) words(FIRST)[DZ_E_T1_SECONDS] = words(FIRST)[DZ_E_T2_SECONDS] = words(FIRST)[DZ_E_T3_SECONDS] = words(FIRST)[DZ_E_T4_SECONDS] = below(1ul << 47);
-    begin("dz_measure");
-    may[SECOND] = 24;
-    unsigned code = end(dz_measure(words(FIRST), words(SECOND)), 1u | CAN(14));
-    if (code) return;
-    expect(words(SECOND)[2] < 65536000000000, "a rest of a second or more");
-    words(FIRST)[DZ_E_T1_SECONDS]++, words(FIRST)[DZ_E_T2_SECONDS]++, words(FIRST)[DZ_E_T3_SECONDS]++, words(FIRST)[DZ_E_T4_SECONDS]++;
-    if (dz_measure(words(FIRST), words(THIRD)) == 0) expect(!memcmp(words(SECOND), words(THIRD), 24), "a second later the delay is another");
+    const uint64_t *x = words(EXCHANGE), *d = words(ANSWER);
+    any_exchange(words(EXCHANGE));
+    wide t1 = stamp(DZ_E_T1_SECONDS, 0) + widened(x[DZ_E_SYNC]) + widened(x[DZ_E_FOLLOW]), t2 = stamp(DZ_E_T2_SECONDS, x[DZ_E_T2_FRACTION]);
+    wide t3 = stamp(DZ_E_T3_SECONDS, x[DZ_E_T3_FRACTION]), t4 = stamp(DZ_E_T4_SECONDS, 0) - widened(x[DZ_E_RESP]);
+    if (must_be(measure(), is_in_limits(x) && is_within(t4 - t1, 47) && is_within(t3 - t2, 47) ? DZ_OK : DZ_REFUSED_RANGE) != DZ_OK) return;
+    expect(d[DZ_D_REST] < 65536000000000, "a rest of a second or more");
+    expect(widened(d[DZ_D_DELAY]) + widened(d[DZ_D_SECONDS]) * 65536000000000 + d[DZ_D_REST] == t2 - t1, "delay and offset are not t2 - t1");
 }
 
 /* ---- all of them --------------------------------------------------------------------------------------------------------------- */
 
-static void (*const tries[])(void) = {try_records, try_records, try_records, try_best, try_deciding, try_reading, try_writing, try_ranking, try_comparing, try_links, try_measuring};
+static void (*const tries[])(void) = {try_announces, try_announces, try_announces, try_slots, try_intervals, try_best, try_deciding_all, try_deciding, try_ranking,
+    try_comparing, try_reading, try_origin, try_writing, try_writing_links, try_links, try_links, try_measuring};
+
+/* A new history begins: on fresh state, or now and then on any words at all. */
+static void begin_history(uint64_t which)
+{
+    now = 0;
+    memset(words(PORTS), 0, DZ_PORTS_WORDS * 8);
+    memset(words(LINKS), 0, DZ_LINKS_WORDS * 8);
+    if (which % 3 == 2) fill(words(PORTS), DZ_PORTS_WORDS), fill(words(LINKS), DZ_LINKS_WORDS);
+}
 
 int main(int count, char **arguments)
 {
-    uint64_t most = count > 1 ? strtoul(arguments[1], NULL, 10) : 200000;
-    chance = count > 2 ? strtoul(arguments[2], NULL, 10) * 2 + 1 : 1;
-    for (int b = FIRST; b < BOXES; b++) fill(b);
+    const uint64_t enough = 200000;
+    uint64_t most = count > 1 ? strtoull(arguments[1], NULL, 10) : enough;
+    chance = count > 2 ? strtoull(arguments[2], NULL, 10) * 2 + 1 : 1;
+    expect(dz_version() == DZ_VERSION, "the library is of another version than the header");
+    lay_out();
+    fill(memory, sizeof memory / 8);
     for (uint64_t turn = 0; calls < most; turn++) {
-        if (turn % 2000 == 0) { /* fresh state, or any words at all */
-            memset(box[PORTS], 0, sizeof box[PORTS]);
-            memset(box[LINKS], 0, sizeof box[LINKS]);
-            now = 0;
-            if (turn % 6000 == 4000) fill(PORTS), fill(LINKS);
-        }
+        if (turn % 2000 == 0) begin_history(turn / 2000);
         tries[below(sizeof tries / sizeof *tries)]();
     }
-    printf("%lu calls, of refusals 1 to 18:", calls);
-    for (int i = 1; i <= 18; i++) printf(" %lu", refusals[i]);
+    printf("%" PRIu64 " calls, of refusals 1 to 18:", calls);
+    for (int i = 1; i <= DZ_REFUSED_FIELD; i++) printf(" %" PRIu64, answers[i]);
     printf("\n");
     calling = "all calls";
-    for (int i = 0; i <= 18; i++) expect(refusals[i] > 0 || most < 100000, "a number was never given");
+    for (int i = 1; i <= DZ_REFUSED_FIELD; i++) expect(answers[i] > 0 || most < enough, "a number was never given");
     return 0;
 }

@@ -1,9 +1,9 @@
 //! The independent second implementation of the engine of document 01.
 //!
-//! `answer` speaks the line protocol on standard input and output; `generate`
-//! prints lines by seed; `compare` gives such lines to another program and
-//! compares its answers with ours; `kinds` counts the kinds of answers that
-//! such lines reach.
+//! `answer` speaks the line protocol on standard input and output; `calls`
+//! prints the names of the calls; `generate` prints lines by seed; `compare`
+//! gives such lines to another program and compares its answers with ours;
+//! `kinds` counts the kinds of answers that such lines reach.
 
 mod engine;
 mod protocol;
@@ -14,18 +14,20 @@ use protocol::answer::answer;
 use protocol::lines::next_line;
 use std::io::{self, BufReader, BufWriter, Write};
 use std::process::ExitCode;
-use trial::calls::calls_named;
+use trial::calls::{calls_named, CALLS};
 use trial::compare::compare;
 use trial::generator::Generator;
 use trial::kinds::Kinds;
 
 const USAGE: &str = "usage:
   second answer
+  second calls
   second generate CALLS COUNT SEED
   second compare CALLS COUNT SEED -- PROGRAM [ARGUMENTS]
   second kinds CALLS COUNT SEED
 
-CALLS is `all` or the names of calls separated by commas.";
+CALLS is `all` for every call, or names of calls separated by commas, among which
+`all` is the call of that name.";
 
 /// Runs the command that the arguments name.
 fn main() -> ExitCode {
@@ -46,6 +48,7 @@ fn run(arguments: &[String]) -> io::Result<ExitCode> {
     let words: Vec<&str> = arguments.iter().map(String::as_str).collect();
     match words[..] {
         ["answer"] => run_answer(),
+        ["calls"] => run_calls(),
         ["generate", calls, count, seed] => match lines_asked_for(calls, count, seed) {
             Some((generator, count)) => run_generate(generator, count),
             None => Ok(usage()),
@@ -95,6 +98,15 @@ fn run_answer() -> io::Result<ExitCode> {
     Ok(ExitCode::SUCCESS)
 }
 
+/// Prints the names of the calls that lines can be made of.
+fn run_calls() -> io::Result<ExitCode> {
+    let mut output = io::stdout().lock();
+    for (name, _) in CALLS {
+        writeln!(output, "{name}")?;
+    }
+    Ok(ExitCode::SUCCESS)
+}
+
 /// Prints lines.
 fn run_generate(mut generator: Generator, count: u64) -> io::Result<ExitCode> {
     let mut output = BufWriter::with_capacity(1 << 16, io::stdout().lock());
@@ -120,9 +132,9 @@ fn run_kinds(mut generator: Generator, count: u64) -> io::Result<ExitCode> {
 fn run_compare(program: &[String], generator: Generator, count: u64) -> io::Result<ExitCode> {
     let found = compare(program, generator, count)?;
     println!("{} lines, {} differ", found.lines, found.differing);
-    Ok(if found.differing == 0 && found.ended_well {
-        ExitCode::SUCCESS
-    } else {
+    Ok(if found.differing > 0 || found.failed {
         ExitCode::FAILURE
+    } else {
+        ExitCode::SUCCESS
     })
 }

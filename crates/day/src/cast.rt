@@ -1,5 +1,6 @@
 // Who is heard on that day: two masters, a boundary clock, a looped tenant, and a tenant with endless new names. Each
 // writes its Announces with the engine's own writer, and the clock takes them from the octets.
+use crate::text;
 use message::fields::Announce;
 use message::fields::Body;
 use message::fields::Header;
@@ -173,27 +174,38 @@ pub fn header(clock: u64, sequence: u16, flags: u16) -> Header {
     }
 }
 
-// One Announce, written with its White Rabbit suffix and taken at `t` nanoseconds.
-fn heard(words: &mut [u64; 1764], t: u64, s: Speaker, sequence: u16) -> Outcome {
-    let port = s.port;
-    let m = Message {
+// A message, written into a lent buffer: how many octets it has, none where the writer refuses it.
+pub fn written(out: &mut [u8], m: Message, tail: &[u8]) -> usize {
+    match writer::writing::write(out, m, tail, MAGIC) {
+        Written::Octets(n) => n,
+        Written::Refused(_) => 0,
+    }
+}
+
+// A sender's Announce.
+fn announce(s: Speaker, sequence: u16) -> Message {
+    Message {
         header: header(s.clock, sequence, 8),
         body: body(s),
-    };
-    let suffix = wrwriter::suffix(s.flags, MAGIC);
-    let octets = suffix.octets;
-    let mut sent = [0u8; 78];
-    match writer::writing::write(
-        &mut sent,
-        m,
-        lines::args::front(&octets, suffix.size),
-        MAGIC,
-    ) {
-        Written::Octets(n) => {
-            ports::intake::take(words, port, t, lines::args::front(&sent, n), settings())
-        }
-        Written::Refused(x) => Outcome::Refused(x),
     }
+}
+
+// It is written into a lent buffer with its White Rabbit suffix.
+fn announced(out: &mut [u8], s: Speaker, sequence: u16) -> usize {
+    let suffix = wr_tlvs::suffix(s.flags, MAGIC);
+    let octets = suffix.octets;
+    written(
+        out,
+        announce(s, sequence),
+        text::front(&octets, suffix.size),
+    )
+}
+
+// One Announce, taken at `t` nanoseconds from the octets that its sender wrote.
+fn heard(words: &mut [u64; 1764], t: u64, s: Speaker, sequence: u16) -> Outcome {
+    let mut sent = [0u8; 78];
+    let n = announced(&mut sent, s, sequence);
+    ports::intake::take(words, s.port, t, text::front(&sent, n), settings())
 }
 
 // A second of the day in nanoseconds.
@@ -231,7 +243,7 @@ pub fn hour(words: &mut [u64; 1764], h: u64) {
 pub struct Count {
     pub taken: u64,
     pub refused: u64,
-    pub last: u8,
+    pub last: u64,
 }
 
 fn counted(c: Count, x: Outcome) -> Count {
@@ -257,41 +269,20 @@ pub fn none() -> Count {
     }
 }
 
-// A minute of our own Announces coming back, two a second, from the hour on.
-pub fn loop_minute(words: &mut [u64; 1764], h: u64) -> Count {
-    let start = instant(h % 24 * 3600);
-    let mut c = none();
-    let mut i: u64 = 0;
-    while i < 120 {
-        c = counted(
-            c,
-            heard(
-                words,
-                std::num::wrapping_add_u64(start, i * 500_000_000),
-                looped(),
-                (i % 65536) as u16,
-            ),
-        );
-        i += 1;
-    }
-    c
+// One Announce of a tenant: a new name of the one that floods its port, or what the looped cable brings back.
+fn attempt(c: Count, words: &mut [u64; 1764], t: u64, i: u64, floods: bool) -> Count {
+    let s = if floods { flooding(i) } else { looped() };
+    counted(c, heard(words, t, s, (i % 65536) as u16))
 }
 
-// Ten thousand Announces, each under a new name, one a millisecond from the hour on.
-pub fn flood(words: &mut [u64; 1764], h: u64) -> Count {
-    let start = instant(h % 24 * 3600);
+// What a tenant tries from an hour on: n Announces, so many nanoseconds apart.
+pub fn tries(words: &mut [u64; 1764], h: u64, n: u64, apart: u64, floods: bool) -> Count {
+    let mut t = instant(h % 24 * 3600);
     let mut c = none();
     let mut i: u64 = 0;
-    while i < 10_000 {
-        c = counted(
-            c,
-            heard(
-                words,
-                std::num::wrapping_add_u64(start, i * 1_000_000),
-                flooding(i),
-                0,
-            ),
-        );
+    while i < n {
+        c = attempt(c, words, t, i, floods);
+        t = std::num::wrapping_add_u64(t, apart);
         i += 1;
     }
     c

@@ -31,6 +31,19 @@ const SLAVE_TX: u64 = 224;
 
 const SLAVE_RX: u64 = 230;
 
+// Delay_Req leaves half a second after Sync, in nanoseconds.
+const HALF: u64 = 500_000_000;
+
+// How long after t1 the slave takes t2 and t3, in nanoseconds times 2^16, and the master t4, in nanoseconds.
+const T2: u64 = (MASTER_TX + FIBRE + SLAVE_RX) * SCALE;
+
+const T3: u64 = HALF * SCALE;
+
+const T4: u32 = (HALF + SLAVE_TX + FIBRE + MASTER_RX) as u32;
+
+// A nanosecond in picoseconds times 2^16.
+const LATENCY: u64 = 1000 * SCALE;
+
 // The two-step bit, of octet 6.
 const TWO_STEP: u16 = 0x0200;
 
@@ -42,15 +55,13 @@ fn ahead(h: u64) -> u64 {
     if h < 24 { 40 * SCALE >> (h - 13) } else { 0 }
 }
 
-fn stamped(clock: u64, sequence: u16, flags: u16, body: Body, out: &mut [u8]) -> usize {
+// A message of a master's, written into a lent buffer.
+fn stamped(clock: u64, sequence: u16, flags: u16, body: Body, out: &mut [u8]) {
     let m = Message {
         header: cast::header(clock, sequence, flags),
         body,
     };
-    match writer::writing::write(out, m, b"", MAGIC) {
-        writer::writing::Written::Octets(n) => n,
-        writer::writing::Written::Refused(_) => 0,
-    }
+    cast::written(out, m, b"");
 }
 
 // The time that ten octets hold.
@@ -91,29 +102,21 @@ fn fine(seconds: u64, scaled: u64) -> FineStamp {
 fn stamps(master: u64, h: u64) -> Stamps {
     let t1 = origin_time(master, h);
     let seconds = t1.seconds;
-    let there = std::num::wrapping_add_u64((MASTER_TX + FIBRE + SLAVE_RX) * SCALE, ahead(h));
-    let back = std::num::wrapping_add_u64(500_000_000 * SCALE, ahead(h));
+    let ahead = ahead(h);
     Stamps {
-        t1: t1,
-        t2: fine(seconds, there),
-        t3: fine(seconds, back),
-        t4: Stamp {
-            seconds,
-            nanos: (500_000_000 + SLAVE_TX + FIBRE + MASTER_RX) as u32,
-        },
+        t1,
+        t2: fine(seconds, std::num::wrapping_add_u64(T2, ahead)),
+        t3: fine(seconds, std::num::wrapping_add_u64(T3, ahead)),
+        t4: Stamp { seconds, nanos: T4 },
     }
-}
-
-fn latency(ns: u64) -> ScaledPs {
-    ScaledPs(ns % 10_000 * 1000 * SCALE)
 }
 
 fn latencies() -> Latencies {
     Latencies {
-        mtx: latency(MASTER_TX),
-        mrx: latency(MASTER_RX),
-        stx: latency(SLAVE_TX),
-        srx: latency(SLAVE_RX),
+        mtx: ScaledPs(MASTER_TX * LATENCY),
+        mrx: ScaledPs(MASTER_RX * LATENCY),
+        stx: ScaledPs(SLAVE_TX * LATENCY),
+        srx: ScaledPs(SLAVE_RX * LATENCY),
     }
 }
 

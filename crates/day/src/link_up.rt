@@ -67,6 +67,11 @@ fn risen(r: Rise, x: Taken) -> Rise {
     }
 }
 
+// One event, taken.
+fn turn(r: Rise, words: &mut [u64; 72], port: u8, e: Event) -> Rise {
+    risen(r, links::take(words, port, e))
+}
+
 // The seven events of a link that comes up on `port` to a parent with these wrFlags.
 pub fn bring_up(words: &mut [u64; 72], port: u8, flags: u16) -> Rise {
     links::set(words, port, slave_settings());
@@ -77,7 +82,7 @@ pub fn bring_up(words: &mut [u64; 72], port: u8, flags: u16) -> Rise {
     };
     let mut i: u64 = 0;
     while i < 7 {
-        r = risen(r, links::take(words, port, event(i, flags)));
+        r = turn(r, words, port, event(i, flags));
         i += 1;
     }
     r

@@ -1,9 +1,7 @@
 // A day on eighteen ports, told hour by hour: two masters, a boundary clock, a looped tenant, a tenant that floods its
 // port with ten thousand names, a White Rabbit link that comes up, a master that falls silent and the one that
 // takes over. What is announced is made up; every decision, count, delay and offset comes from the proved engine.
-use decisions::Leader;
-use libc::STDOUT_FILENO;
-use lines::answer;
+use election::Leader;
 use rank::Candidate;
 use rank::Ranked;
 use senders::Asked;
@@ -13,6 +11,7 @@ mod cast;
 mod exchange;
 mod link_up;
 mod page;
+mod text;
 
 // The hours in which the looped cable and the flood come, and in which a link to a new parent is brought up.
 const LOOP: u64 = 3;
@@ -37,246 +36,220 @@ fn set_intervals(words: &mut [u64; 1764]) {
     }
 }
 
-// What the tenants try in an hour.
+// What the tenants try in an hour: a minute of our own Announces coming back, two a second; ten thousand Announces, each
+// under a new name, one a millisecond.
 fn tenants(words: &mut [u64; 1764], h: u64) -> cast::Count {
     if h == LOOP {
-        return cast::loop_minute(words, h);
+        return cast::tries(words, h, 120, 500_000_000, false);
     }
     if h == FLOOD {
-        return cast::flood(words, h);
+        return cast::tries(words, h, 10_000, 1_000_000, true);
     }
     cast::none()
 }
 
-// What became of it.
-fn tried(out: &mut [u8], at: usize, c: cast::Count) -> usize {
-    let one = answer::number(out, at, c.taken);
-    let two = answer::text(out, one, b" taken,");
-    let three = answer::number(out, two, c.refused);
-    let four = answer::text(out, three, b" refused with number");
-    answer::number(out, four, c.last as u64)
+// What became of it, behind some words.
+fn tried(words: &[u8], c: cast::Count) {
+    text::number(words, c.taken);
+    text::number(b" taken, ", c.refused);
+    text::number(b" refused with number ", c.last);
 }
 
-fn tenants_told(out: &mut [u8], at: usize, h: u64, c: cast::Count) -> usize {
+// What became of what the tenants tried, in the hours in which they did.
+fn tenants_told(h: u64, c: cast::Count) {
     if h == LOOP {
-        let to = answer::text(out, at, b"  port 9: our own Announces looped back,");
-        return tried(out, to, c);
+        tried(b"  port 9: our own Announces looped back, ", c);
     }
     if h == FLOOD {
-        let to = answer::text(out, at, b"  port 12: 10000 new names,");
-        return tried(out, to, c);
+        tried(b"  port 12: 10000 new names, ", c);
     }
-    at
 }
 
-fn rise_counted(out: &mut [u8], at: usize, r: link_up::Rise) -> usize {
-    let one = answer::number(out, at, r.events);
-    let two = answer::text(out, one, b" events, messages sent:");
-    answer::number(out, two, r.sent)
+// A link brought up.
+fn rise_told(events: u64, sent: u64) {
+    text::number(b": White Rabbit link on after ", events);
+    text::number(b" events, messages sent: ", sent);
 }
 
-// A link brought up, or not.
-fn rise_told(out: &mut [u8], at: usize, port: u8, r: link_up::Rise) -> usize {
-    let one = answer::text(out, at, b"  port");
-    let two = answer::number(out, one, port as u64);
-    if !r.on {
-        return answer::text(out, two, b": White Rabbit link not on");
+// The link to the parent on `port`, brought up, or not.
+fn link_told(links: &mut [u64; 72], port: u8, flags: u16) {
+    let r = link_up::bring_up(links, port, flags);
+    text::number(b"  port ", port as u64);
+    if r.on {
+        rise_told(r.events, r.sent);
+    } else {
+        text::say(b": White Rabbit link not on");
     }
-    let three = answer::text(out, two, b": White Rabbit link on after");
-    rise_counted(out, three, r)
 }
 
 // The link to the parent, in the hours in which it is brought up.
-fn link_told(out: &mut [u8], at: usize, links: &mut [u64; 72], h: u64, parent: Leader) -> usize {
-    let Leader::Master(c) = parent else {
-        return at;
-    };
-    if h != FIRST_LINK && h != SECOND_LINK {
-        return at;
+fn links_told(links: &mut [u64; 72], h: u64, parent: Leader) {
+    if (h == FIRST_LINK) | (h == SECOND_LINK) {
+        match parent {
+            Leader::Master(c) => link_told(links, c.port, c.wrflags),
+            Leader::Ours => (),
+            Leader::Refused(_) => (),
+        }
     }
-    let port = c.port;
-    let r = link_up::bring_up(links, port, c.wrflags);
-    rise_told(out, at, port, r)
 }
 
 // A master, the port that hears it and the offset from it.
-fn master_told(out: &mut [u8], at: usize, h: u64, c: Candidate) -> usize {
-    let sender = c.sender;
-    let one = answer::text(out, at, b" ");
-    let two = answer::clock(out, one, sender.clock);
-    let three = page::right(out, two, c.port as u64, 6);
-    page::measured(out, three, exchange::measured(sender.clock, h))
+fn master_told(h: u64, clock: u64, port: u8) {
+    text::clock(b"  0x", clock);
+    text::right(port as u64, 6);
+    page::measured(exchange::measured(clock, h));
 }
 
 // The parent; our own clock where there is none.
-fn parent_told(out: &mut [u8], at: usize, h: u64, parent: Leader) -> usize {
+fn parent_told(h: u64, parent: Leader) {
     match parent {
-        Leader::Master(c) => master_told(out, at, h, c),
-        Leader::Ours => answer::text(out, at, b"  our own clock                    "),
-        Leader::Refused(x) => answer::refused(out, at, x),
+        Leader::Master(c) => {
+            let sender = c.sender;
+            master_told(h, sender.clock, c.port)
+        }
+        Leader::Ours => text::say(b"  our own clock                    "),
+        Leader::Refused(x) => page::refused(x),
     }
 }
 
-// What every port is told now becomes what it was told before.
-fn keep(before: &mut [u8; 18], now: &[u8; 18]) {
-    let mut i: usize = 0;
-    while i < 18 {
-        before[i] = now[i];
-        i += 1;
-    }
+// The decisions at an hour's end, and the parent.
+fn decided(words: &[u64; 1764], h: u64, now: &mut [u8; 18]) -> Leader {
+    let elected = election::decide_all(words, cast::own(), end_of(h), now);
+    election::parent(cast::own(), elected.list)
 }
 
-// The line of an hour.
-fn line(
-    out: &mut [u8],
-    at: usize,
-    h: u64,
-    parent: Leader,
-    before: &[u8; 18],
-    now: &[u8; 18],
-) -> usize {
-    let one = page::right(out, at, h, 4);
-    let two = parent_told(out, one, h, parent);
-    page::changes(out, two, before, now)
+// The line of an hour, up to the decisions that changed. What every port is told now becomes what it was told before.
+fn line(words: &[u64; 1764], before: &mut [u8; 18], h: u64) -> Leader {
+    let mut now = [0u8; 18];
+    let parent = decided(words, h, &mut now);
+    text::right(h, 4);
+    parent_told(h, parent);
+    page::changes(before, &now);
+    *before = now;
+    parent
 }
 
 // An hour: what happens in it, and its line.
-fn hour(
-    words: &mut [u64; 1764],
-    links: &mut [u64; 72],
-    before: &mut [u8; 18],
-    out: &mut [u8],
-    at: usize,
-    h: u64,
-) -> usize {
+fn hour(words: &mut [u64; 1764], links: &mut [u64; 72], before: &mut [u8; 18], h: u64) {
     let c = tenants(words, h);
     cast::hour(words, h);
-    let mut now = [0u8; 18];
-    let elected = decisions::decide_all(words, cast::own(), end_of(h), &mut now);
-    let parent = decisions::parent(cast::own(), elected.list);
-    let one = line(out, at, h, parent, before, &now);
-    keep(before, &now);
-    let two = tenants_told(out, one, h, c);
-    let three = link_told(out, two, links, h, parent);
-    answer::put(out, three, b'\n')
+    let parent = line(words, before, h);
+    tenants_told(h, c);
+    links_told(links, h, parent);
+    text::say(b"\n");
 }
 
-fn hours(
-    words: &mut [u64; 1764],
-    links: &mut [u64; 72],
-    before: &mut [u8; 18],
-    out: &mut [u8],
-    at: usize,
-) -> usize {
-    let mut to = at;
+// All of them.
+fn hours(words: &mut [u64; 1764], links: &mut [u64; 72], before: &mut [u8; 18]) {
     let mut h: u64 = 0;
     while h < 24 {
-        to = hour(words, links, before, out, to, h);
+        hour(words, links, before, h);
         h += 1;
     }
-    to
+}
+
+// A sender, its grandmaster and steps.
+fn sender_told(clock: u64, grandmaster: u64, steps: u16) {
+    text::clock(b"  0x", clock);
+    text::clock(b"  0x", grandmaster);
+    text::right(steps as u64, 7);
 }
 
 // The sender, grandmaster and steps of a port's best; dashes where it has none.
-fn best_told(out: &mut [u8], at: usize, best: Asked) -> usize {
+fn best_told(best: Asked) {
     let Asked::Found(c) = best else {
-        return answer::text(out, at, b"  -                   -                       -");
+        text::say(b"  -                   -                       -");
+        return;
     };
     let sender = c.sender;
     let grandmaster = c.grandmaster;
-    let one = answer::text(out, at, b" ");
-    let two = answer::clock(out, one, sender.clock);
-    let three = answer::text(out, two, b" ");
-    let four = answer::clock(out, three, grandmaster.identity);
-    page::right(out, four, c.steps as u64, 7)
+    sender_told(sender.clock, grandmaster.identity, c.steps);
 }
 
-fn port_told(out: &mut [u8], at: usize, words: &[u64; 1764], now: &[u8; 18], i: usize) -> usize {
-    let port = (i % 18 + 1) as u8;
+// A port's line of the table: the decision, the best sender and how many records are live.
+fn port_told(words: &[u64; 1764], port: u8, code: u8) {
     let t = end_of(23);
-    let one = page::right(out, at, port as u64, 4);
-    let two = answer::text(out, one, b"  ");
-    let three = page::decision(out, two, now[i % 18]);
-    let four = page::blanks(out, three, 6);
-    rest_told(out, four, words, port, t)
-}
-
-fn rest_told(out: &mut [u8], at: usize, words: &[u64; 1764], port: u8, t: u64) -> usize {
-    let one = best_told(out, at, ports::asking::best(words, port, t));
-    let two = page::right(out, one, board::live(words, port, t), 14);
-    answer::put(out, two, b'\n')
+    text::right(port as u64, 4);
+    text::blanks(2);
+    page::decision(code);
+    text::blanks(6);
+    best_told(ports::asking::best(words, port, t));
+    text::right(board::live(words, port, t), 14);
+    text::say(b"\n");
 }
 
 // The table of ports at the day's end.
-fn table(out: &mut [u8], at: usize, words: &[u64; 1764], now: &[u8; 18]) -> usize {
-    let mut to = answer::text(
-        out,
-        at,
-        b"\nport  decision  sender              grandmaster         steps  records live\n",
-    );
-    let mut i: usize = 0;
+fn table(words: &[u64; 1764], now: &[u8; 18]) {
+    text::say(b"\nport  decision  sender              grandmaster         steps  records live\n");
+    let mut i: u8 = 0;
     while i < 18 {
-        to = port_told(out, to, words, now, i);
+        port_told(words, i + 1, now[i as usize]);
         i += 1;
     }
-    to
 }
 
-fn heard_by(out: &mut [u8], at: usize, c: Candidate) -> usize {
+// A master, and the port that hears it.
+fn heard_by(c: Candidate) {
     let sender = c.sender;
-    let one = answer::clock(out, at, sender.clock);
-    let two = answer::text(out, one, b" on port");
-    answer::number(out, two, c.port as u64)
+    text::clock(b" 0x", sender.clock);
+    text::number(b" on port ", c.port as u64);
 }
 
 // One of the parent's backups, if the list is that long.
-fn backup(out: &mut [u8], at: usize, list: Ranked, i: usize) -> usize {
+fn backup(list: Ranked, i: usize) {
     if i < list.len && i < 4 {
-        return heard_by(out, at, list.slots[i]);
+        heard_by(list.slots[i]);
     }
-    at
 }
 
 // The parent's backups, in their order.
-fn backups(out: &mut [u8], at: usize, list: Ranked) -> usize {
-    let one = backup(out, at, list, 1);
-    let two = backup(out, one, list, 2);
-    backup(out, two, list, 3)
+fn backups(list: Ranked) {
+    text::say(b", backup");
+    backup(list, 1);
+    backup(list, 2);
+    backup(list, 3);
 }
 
-// The parent, its backups, and the day's last delay and offset.
-fn close(out: &mut [u8], at: usize, list: Ranked) -> usize {
+// The parent.
+fn parent_named(list: Ranked) {
+    text::say(b"\nparent");
+    heard_by(list.slots[0]);
+}
+
+// The day's last delay and offset, from the parent.
+fn measured_told(list: Ranked) {
     let parent = list.slots[0];
     let sender = parent.sender;
-    let one = answer::text(out, at, b"\nparent");
-    let two = heard_by(out, one, parent);
-    let three = answer::text(out, two, b", backup");
-    let four = backups(out, three, list);
-    measured_told(out, four, sender.clock)
+    text::say(b"\n");
+    page::last_measured(exchange::measured(sender.clock, 23));
 }
 
-fn measured_told(out: &mut [u8], at: usize, master: u64) -> usize {
-    let to = answer::put(out, at, b'\n');
-    page::last_measured(out, to, exchange::measured(master, 23))
-}
-
-fn main() {
-    let mut words = [0u64; 1764];
-    let mut links = [0u64; 72];
+// What the day comes to: the table, the parent and its backups, and the last delay and offset.
+fn end(words: &[u64; 1764]) {
     let mut now = [0u8; 18];
-    let mut out = [0u8; 16384];
-    set_intervals(&mut words);
-    let one = answer::text(
-        &mut out,
-        0,
+    let elected = election::decide_all(words, cast::own(), end_of(23), &mut now);
+    table(words, &now);
+    parent_named(elected.list);
+    backups(elected.list);
+    measured_told(elected.list);
+}
+
+// What stands above the hours.
+fn heading() {
+    text::say(
         b"A day on eighteen ports, at each hour's end. M: the port is a master, S1: it follows the parent, S2: it is a backup.
 
 hour  parent              port  offset, ns  what changed
 ",
     );
-    let two = hours(&mut words, &mut links, &mut now, &mut out, one);
-    let elected = decisions::decide_all(&words, cast::own(), end_of(23), &mut now);
-    let three = table(&mut out, two, &words, &now);
-    let four = close(&mut out, three, elected.list);
-    io::write_all(STDOUT_FILENO, lines::args::front(&out, four));
+}
+
+fn main() {
+    let mut words = [0u64; 1764];
+    let mut links = [0u64; 72];
+    let mut before = [0u8; 18];
+    set_intervals(&mut words);
+    heading();
+    hours(&mut words, &mut links, &mut before);
+    end(&words);
 }

@@ -1,147 +1,115 @@
-// The page that the day is told on. Each function appends at a place and hands back the next place.
+// The page that the day is told on: delays and offsets in nanoseconds, and decisions.
+use crate::text;
 use delay::Measurement;
 use delay::Offset;
 use delay::ScaledNs;
-use lines::answer;
+use refusal::Refusal;
 
 // A second in nanoseconds times 2^16.
 const SECOND: u64 = 65_536_000_000_000;
 
-// So many blanks, thirty at most.
-pub fn blanks(out: &mut [u8], at: usize, n: usize) -> usize {
-    answer::text(
-        out,
-        at,
-        lines::args::front(b"                              ", n),
-    )
-}
-
-// How many blanks stand before a number in a column of so many places, one at least being put by `answer::number`.
-fn room(value: u64, width: usize) -> usize {
-    let n = if value < 10 {
-        2
-    } else if value < 100 {
-        3
-    } else if value < 1_000 {
-        4
-    } else if value < 10_000 {
-        5
-    } else {
-        6
-    };
-    if n < width { width - n } else { 0 }
-}
-
-// A number at the right end of a column, with a blank before it at least.
-pub fn right(out: &mut [u8], at: usize, value: u64, width: usize) -> usize {
-    let to = blanks(out, at, room(value, width));
-    answer::number(out, to, value)
-}
-
 // Three digits behind a point.
-fn thousandths(out: &mut [u8], at: usize, value: u64) -> usize {
+fn thousandths(value: u64) {
     let hundreds = b'0' + (value / 100 % 10) as u8;
     let tens = b'0' + (value / 10 % 10) as u8;
     let ones = b'0' + (value % 10) as u8;
-    answer::text(out, at, &[b'.', hundreds, tens, ones])
+    text::say(&[b'.', hundreds, tens, ones]);
 }
 
 // Nanoseconds times 2^16 as nanoseconds and picoseconds, at the right end of a column.
-fn nanoseconds(out: &mut [u8], at: usize, scaled: u64, width: usize) -> usize {
-    let to = right(out, at, scaled / 65536, width);
-    thousandths(out, to, scaled % 65536 * 1000 / 65536)
+fn nanoseconds(scaled: u64, width: usize) {
+    text::right(scaled / 65536, width);
+    thousandths(scaled % 65536 * 1000 / 65536);
+}
+
+// How far behind we are: what the rest lacks of a second.
+fn behind(rest: u64) -> u64 {
+    if rest < SECOND { SECOND - rest } else { 0 }
 }
 
 // An offset below a second: ahead as it is, behind with a minus.
-fn offset(out: &mut [u8], at: usize, x: Offset) -> usize {
-    let rest = x.rest;
+fn offset(x: Offset) {
     if x.seconds == 0 {
-        return nanoseconds(out, at, rest, 9);
+        nanoseconds(x.rest, 9);
+    } else {
+        text::say(b" -");
+        nanoseconds(behind(x.rest), 7);
     }
-    let behind = if rest < SECOND { SECOND - rest } else { 0 };
-    let to = answer::text(out, at, b" -");
-    nanoseconds(out, to, behind, 7)
 }
 
 // The offset of a measurement; a dash where there is none.
-pub fn measured(out: &mut [u8], at: usize, m: Measurement) -> usize {
+pub fn measured(m: Measurement) {
     match m {
-        Measurement::Measured(_, x) => offset(out, at, x),
-        Measurement::Refused(_) => answer::text(out, at, b"            -"),
+        Measurement::Measured(_, x) => offset(x),
+        Measurement::Refused(_) => text::say(b"            -"),
     }
 }
 
-fn delay(out: &mut [u8], at: usize, d: ScaledNs) -> usize {
-    nanoseconds(out, at, octets::bits64(d.0), 2)
+// A delay, and the offset that goes with it.
+fn both(d: ScaledNs, x: Offset) {
+    text::say(b"delay");
+    nanoseconds(octets::bits64(d.0), 2);
+    text::say(b" ns, offset");
+    nanoseconds(x.rest, 2);
+    text::say(b" ns\n");
 }
 
 // The last line: delay and offset.
-pub fn last_measured(out: &mut [u8], at: usize, m: Measurement) -> usize {
+pub fn last_measured(m: Measurement) {
     match m {
-        Measurement::Measured(d, x) => {
-            let one = answer::text(out, at, b"delay");
-            let two = delay(out, one, d);
-            let three = answer::text(out, two, b" ns, offset");
-            unit(out, three, x)
-        }
-        Measurement::Refused(x) => answer::refused(out, at, x),
+        Measurement::Measured(d, x) => both(d, x),
+        Measurement::Refused(x) => refused(x),
     }
 }
 
-fn unit(out: &mut [u8], at: usize, x: Offset) -> usize {
-    let to = nanoseconds(out, at, x.rest, 2);
-    answer::text(out, to, b" ns\n")
+// A refusal, by its number.
+pub fn refused(x: Refusal) {
+    text::number(b"refused ", refusal::number(x));
 }
 
 // A decision by its number, 1 to 7.
-pub fn decision(out: &mut [u8], at: usize, code: u8) -> usize {
-    match code {
-        1 => answer::text(out, at, b"M1"),
-        2 => answer::text(out, at, b"M2"),
-        3 => answer::text(out, at, b"M3"),
-        4 => answer::text(out, at, b"S1"),
-        5 => answer::text(out, at, b"S2"),
-        6 => answer::text(out, at, b"P1"),
-        7 => answer::text(out, at, b"P2"),
-        _ => answer::text(out, at, b"--"),
-    }
+pub fn decision(code: u8) {
+    let k = (code % 8) as usize;
+    let letters = [b'-', b'M', b'M', b'M', b'S', b'S', b'P', b'P'];
+    let digits = [b'-', b'1', b'2', b'3', b'1', b'2', b'1', b'2'];
+    text::say(&[letters[k], digits[k]]);
 }
 
-// A port that is told `code` now and was told something else.
-fn port_told(out: &mut [u8], at: usize, port: usize, before: u8, now: u8, code: u8) -> usize {
-    if now != code || before == code {
-        return at;
-    }
-    answer::number(out, at, port as u64)
+// `  S1 on`, before the first port that changed to it.
+fn heading(code: u8) {
+    text::blanks(2);
+    decision(code);
+    text::say(b" on");
 }
 
-// All of them.
-fn ports_told(out: &mut [u8], at: usize, before: &[u8; 18], now: &[u8; 18], code: u8) -> usize {
-    let mut to = at;
-    let mut i: usize = 0;
-    while i < 18 {
-        to = port_told(out, to, i + 1, before[i], now[i], code);
-        i += 1;
+// A port that is told `code` now and was told something else, behind the heading where it is the first such port. The
+// answer says whether the next one would be the first.
+fn port_told(port: usize, before: u8, now: u8, code: u8, first: bool) -> bool {
+    if (now != code) | (before == code) {
+        return first;
     }
-    to
+    if first {
+        heading(code);
+    }
+    text::number(b" ", port as u64);
+    false
 }
 
 // `S1 on 2`, where any port changed to it.
-fn told(out: &mut [u8], at: usize, before: &[u8; 18], now: &[u8; 18], code: u8) -> usize {
-    let one = answer::text(out, at, b"  ");
-    let two = decision(out, one, code);
-    let three = answer::text(out, two, b" on");
-    let four = ports_told(out, three, before, now, code);
-    if four == three { at } else { four }
+fn told(before: &[u8; 18], now: &[u8; 18], code: u8) {
+    let mut first = true;
+    let mut i: usize = 0;
+    while i < 18 {
+        first = port_told(i + 1, before[i], now[i], code, first);
+        i += 1;
+    }
 }
 
 // What changed in the decisions, one after the other.
-pub fn changes(out: &mut [u8], at: usize, before: &[u8; 18], now: &[u8; 18]) -> usize {
-    let mut to = at;
+pub fn changes(before: &[u8; 18], now: &[u8; 18]) {
     let mut code: u8 = 1;
     while code < 8 {
-        to = told(out, to, before, now, code);
+        told(before, now, code);
         code += 1;
     }
-    to
 }

@@ -398,7 +398,7 @@ pub fn measure(x: Exchange) -> Measurement
 }
 
 // 0 where there is a delay, else the refusal's number: what a host written in C is handed.
-pub fn code(m: Measurement) -> u8
+pub fn code(m: Measurement) -> u64
     ensures { λ r. ⌜ r ≡ codeOf m ⌝ }
 {
     match m {

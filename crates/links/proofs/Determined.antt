@@ -12,6 +12,10 @@ use Rattle.links.proofs.set.Reads as set
 use Rattle.links.proofs.set.Kinds as set-kinds
 use Rattle.links.proofs.take.Reads as take
 use Rattle.links.proofs.take.Kinds as take-kinds
+use Rattle.links.proofs.look.Reads as look
+use Rattle.links.proofs.look.Kinds as look-kinds
+use Rattle.links.proofs.role_number.Reads as role-number
+use Rattle.links.proofs.role_number.Kinds as role-number-kinds
 use Rattle.links.proofs.bit.Reads as bit
 use Rattle.links.proofs.bit.Kinds as bit-kinds
 use Rattle.links.proofs.state_number.Reads as state-number
@@ -38,3 +42,11 @@ module _ (κs : Lfts 0) (a : Dens κs bit-kinds.ps) (x y : resT bit-kinds.r κs 
 module _ (κs : Lfts 0) (a : Dens κs state-number-kinds.ps) (x y : resT state-number-kinds.r κs .Denot) (e f : AtExit (endedOf 0 state-number-kinds.ps state-number-kinds.r) κs) where
   pub state-number-determined : state-number.Post κs a x e → state-number.Post κs a y f → x ≡ y
   state-number-determined p q = p ∙ sym q
+
+module _ (κs : Lfts 0) (a : Dens κs role-number-kinds.ps) (x y : resT role-number-kinds.r κs .Denot) (e f : AtExit (endedOf 0 role-number-kinds.ps role-number-kinds.r) κs) where
+  pub role-number-determined : role-number.Post κs a x e → role-number.Post κs a y f → x ≡ y
+  role-number-determined p q = p ∙ sym q
+
+module _ (κs : Lfts 1) (a : Dens κs look-kinds.ps) (x y : resT look-kinds.r κs .Denot) (e f : AtExit (endedOf 1 look-kinds.ps look-kinds.r) κs) where
+  pub look-determined : look.Post κs a x e → look.Post κs a y f → x ≡ y
+  look-determined p q = p ∙ sym q

@@ -18,7 +18,7 @@ use Rattle.link.specs.declared.Stepped.{Stepped}
 use Rattle.links.specs.declared.Taken.{Taken}
 use Rattle.links.specs.declared.Taken.the-variants as taken
 use Rattle.link.specs.States.{stateNumber, stateOf}
-use Rattle.link.specs.Machine.{stepped}
+use Rattle.link.specs.Machine.{stepped, ignored}
 
 abbrev pub bit : Bool → ℕ
 bit b = pick b 1 0
@@ -92,3 +92,7 @@ takeAnswer ws port e = refuse (not (IsPort port)) (taken.Refused Port) (taken.St
 -- the words afterwards: the link's own, unless refused
 unfoldable pub takeWords : List ℕ → ℕ → Event → List ℕ
 takeWords ws port e = refuse (not (IsPort port)) ws (set ws (base port) (wordOf (stepAt ws port e .link)))
+
+-- a link as it stands, "port outside 1 to 18" aside: what an event that is ignored answers, which "changes nothing"
+unfoldable pub lookAnswer : List ℕ → ℕ → Taken
+lookAnswer ws port = refuse (not (IsPort port)) (taken.Refused Port) (taken.Step (ignored (linkAt ws port)))

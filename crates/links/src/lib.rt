@@ -6,10 +6,11 @@
 ghost use mathlib.Core.Path.{_≡_};
 ghost use Prim.Native.Nat.{_≤_};
 ghost use Rattle.link.specs.States.{stateNumber, stateOf};
-ghost use Rattle.links.specs.Words.{bit, roleNumber, roleOf, wordOf, linkOf, settingsWord, settingsOf, IsPort, base, settingAnswer, settingWords, takeAnswer, takeWords};
+ghost use Rattle.links.specs.Words.{bit, roleNumber, roleOf, wordOf, linkOf, settingsWord, settingsOf, IsPort, base, settingAnswer, settingWords, takeAnswer, takeWords, lookAnswer};
 use link::Event;
 use link::Link;
 use link::Role;
+use link::Sends;
 use link::Settings;
 use link::State;
 use link::Stepped;
@@ -62,7 +63,7 @@ fn state_of(n: u64) -> State
 }
 
 // A role as a bit of a word; a slave is 0.
-fn role_number(role: Role) -> u64
+pub fn role_number(role: Role) -> u64
     ensures { λ r. ⌜ r ≡ roleNumber role ⌝ }
 {
     match role {
@@ -173,4 +174,19 @@ pub fn take(words: &mut [u64; 72], port: u8, e: Event) -> Taken
     let l = r.link;
     words[at] = word_of(l);
     Taken::Step(r)
+}
+
+// A port's link as it stands: what an event that is ignored answers.
+pub fn look(words: &[u64; 72], port: u8) -> Taken
+    ensures { λ r. ⌜ r ≡ lookAnswer (now (words .entry)) port ⌝ }
+{
+    if !is_port(port) {
+        return Taken::Refused(Refusal::Port);
+    }
+    let at = place(port);
+    Taken::Step(Stepped {
+        link: link_of(words[at]),
+        sends: Sends::Nothing,
+        report: false,
+    })
 }

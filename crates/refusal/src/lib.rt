@@ -26,7 +26,7 @@ pub enum Refusal {
 }
 
 // The row's number, 1 to 18.
-pub fn number(x: Refusal) -> u8
+pub fn number(x: Refusal) -> u64
     ensures { λ r. ⌜ r ≡ numberOf x ⌝ }
 {
     match x {
@@ -58,7 +58,7 @@ pub enum Outcome {
 }
 
 // 0 where the work is done, else the refusal's number: what a host written in C is handed.
-pub fn code(x: Outcome) -> u8
+pub fn code(x: Outcome) -> u64
     ensures { λ r. ⌜ r ≡ codeOf x ⌝ }
 {
     match x {

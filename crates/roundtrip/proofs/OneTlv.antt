@@ -16,7 +16,7 @@ use Rattle.tlv.specs.Faults.{tailCheck}
 use Rattle.tlv.specs.declared.walk.Next.the-variants.{At}
 use Rattle.tlv.specs.declared.form.Numbered.the-variants.{Number}
 use Rattle.tlv.proofs.WalkLaws.{next-is, walk-end, walk-more}
-use Rattle.wrwriter.specs.Built.{wrOctets}
+use Rattle.wr_tlvs.specs.Built.{wrOctets}
 
 module _ (magic number n : ℕ) (content : List ℕ) (hm : magic < 256 ^ 2) (hn : number < 256 ^ 2)
     (count : length content ≡ n) (even : n % 2 ≡ 0) (most : n ≤ 16) where

@@ -35,8 +35,8 @@ use Rattle.layout.specs.Layout.{sizeOf}
 use Rattle.writer.specs.Writing.{writeCheck, writeOf, bufferOf}
 use Rattle.writer.specs.declared.writing.Written.the-variants as written
 use Rattle.writer.proofs.Allowed.{allowed}
-use Rattle.wrwriter.specs.Built.{wrOctets, suffixOctets, linkNumber, linkSize, linkData, linkOctets, signaling}
-use Rattle.wrwriter.proofs.Laws.{link-count}
+use Rattle.wr_tlvs.specs.Built.{wrOctets, suffixOctets, linkNumber, linkSize, linkData, linkOctets, signaling}
+use Rattle.wr_tlvs.proofs.Laws.{link-count}
 use Rattle.roundtrip.specs.Range.{MessageRange, LinkRange}
 use Rattle.roundtrip.proofs.Written.{written-type, written-tail}
 use Rattle.roundtrip.proofs.ReadBack.{accepted-back, gave}

@@ -7,7 +7,7 @@ use super::refusal::{refuse_if, Refusal};
 /// How many ports the clock has.
 pub const PORT_COUNT: usize = 18;
 /// The lowest and the greatest port of the clock.
-const PORTS: std::ops::RangeInclusive<u8> = 1..=18;
+pub const PORTS: std::ops::RangeInclusive<u8> = 1..=18;
 
 /// The fields that tell how good a grandmaster is, in the order in which they
 /// are compared.

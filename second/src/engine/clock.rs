@@ -1,10 +1,12 @@
 //! The boundary clock as a host holds it from call to call: its settings, and
 //! the sender records and links of its eighteen ports.
 
-use super::candidate::{check_port, Candidate, Quality, PORT_COUNT};
+use super::candidate::{check_port, Candidate, Quality, PORTS, PORT_COUNT};
 use super::comparison::DataSet;
+use super::decision::{decide, Decision};
 use super::link::{Link, LinkEvent, LinkSettings, Step};
 use super::message::Body;
+use super::ranking::rank;
 use super::reading::{read, read_suffix};
 use super::refusal::{refuse_if, Refusal};
 use super::senders::{Announced, Senders};
@@ -19,6 +21,15 @@ pub struct Clock {
     senders: [Senders; PORT_COUNT],
     links: [Link; PORT_COUNT],
     link_settings: [LinkSettings; PORT_COUNT],
+}
+
+/// What every port is to be at a time, and what that follows from.
+#[derive(Clone, Debug, PartialEq, Eq)]
+pub struct Decided {
+    /// The decisions of ports 1 to 18.
+    pub ports: Vec<Decision>,
+    /// The ranked list of all ports' candidates.
+    pub ranked: Vec<Candidate>,
 }
 
 /// The place of a port that the clock has.
@@ -104,6 +115,34 @@ impl Clock {
     /// A port's candidates at a time: 8, then 11.
     pub fn candidates(&self, port: u8, time: u64) -> Result<Vec<Candidate>, Refusal> {
         self.senders(port)?.candidates(port, time)
+    }
+
+    /// The first in rank order of a port's candidates at a time, if it has any:
+    /// 8, then 11.
+    pub fn best(&self, port: u8, time: u64) -> Result<Option<Candidate>, Refusal> {
+        Ok(self.candidates(port, time)?.into_iter().min())
+    }
+
+    /// The decision of every port at a time: 11 where that is below any port's
+    /// last accepted time.
+    pub fn decide_all(&self, time: u64) -> Result<Decided, Refusal> {
+        let ranked = rank(&self.all_candidates(time)?)?;
+        let ports = PORTS
+            .map(|port| {
+                let port_best = self.best(port, time)?;
+                decide(&self.own_set(), port, &ranked, port_best.as_ref())
+            })
+            .collect::<Result<_, _>>()?;
+        Ok(Decided { ports, ranked })
+    }
+
+    /// The candidates of all ports at a time, at most 288: 11.
+    fn all_candidates(&self, time: u64) -> Result<Vec<Candidate>, Refusal> {
+        let mut all = Vec::new();
+        for port in PORTS {
+            all.extend(self.candidates(port, time)?);
+        }
+        Ok(all)
     }
 
     /// The link of a port that the clock has.

@@ -52,6 +52,17 @@ pub fn decide(
     })
 }
 
+/// Ebest, the first of a ranked list, where its port is decided S1; none where
+/// the list is empty or our own clock leads: 15.
+pub fn parent(own: &DataSet, ranked: &[Candidate]) -> Result<Option<Candidate>, Refusal> {
+    check_ranked(ranked)?;
+    let Some(ebest) = ranked.first() else {
+        return Ok(None);
+    };
+    let decision = decide(own, ebest.port, ranked, Some(ebest))?;
+    Ok((decision == Decision::S1).then_some(*ebest))
+}
+
 /// Whether our set beats a port's best; anything beats an absent one.
 fn beats_erbest(own: &DataSet, erbest: Option<&DataSet>) -> bool {
     match erbest {

@@ -146,7 +146,7 @@ fn is_newer(new: u16, old: u16) -> bool {
 }
 
 /// The candidate that a port has in what a sender announced.
-fn candidate_of(announced: &Announced, port: u8) -> Candidate {
+pub fn candidate_of(announced: &Announced, port: u8) -> Candidate {
     Candidate {
         quality: announced.quality,
         grandmaster: announced.grandmaster,

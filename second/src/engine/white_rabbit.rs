@@ -1,7 +1,7 @@
 //! White Rabbit TLVs (001, Table 5) and the messages they carry (003, Table 4,
 //! with the data sizes of document 01).
 
-use super::octets::{u16_at, u32_at, u64_at};
+use super::octets::{push_number, u16_at, u32_at, u64_at};
 use super::refusal::Refusal;
 use super::tlv::Tlv;
 
@@ -58,6 +58,51 @@ impl LinkMessage {
             LinkMessage::WrModeOn => WR_MODE_ON,
         }
     }
+
+    /// The octets of its data.
+    fn data(self) -> Vec<u8> {
+        let mut data = Vec::new();
+        match self {
+            LinkMessage::Calibrate {
+                pattern,
+                retry,
+                period,
+            } => {
+                data.extend([pattern, retry]);
+                push_number(&mut data, u64::from(period), 4);
+            }
+            LinkMessage::Calibrated { delta_tx, delta_rx } => {
+                push_number(&mut data, delta_tx, 8);
+                push_number(&mut data, delta_rx, 8);
+            }
+            _ => {}
+        }
+        data
+    }
+}
+
+/// The TLV of a link message.
+pub fn link_message_tlv(message: LinkMessage, magic: u16) -> Vec<u8> {
+    message_tlv(message.number(), &message.data(), magic)
+}
+
+/// The TLV of an ANN_SUFIX; the reserved bits of wrFlags are written as zero.
+pub fn suffix_tlv(wr_flags: u16, magic: u16) -> Vec<u8> {
+    let data = (wr_flags & FLAGS_USED).to_be_bytes();
+    message_tlv(ANN_SUFIX, &data, magic)
+}
+
+/// The TLV of the message of that number with those data.
+fn message_tlv(number: u16, data: &[u8], magic: u16) -> Vec<u8> {
+    let mut tlv = Vec::new();
+    push_number(&mut tlv, u64::from(ORGANIZATION_EXTENSION), 2);
+    push_number(&mut tlv, (PREFIX + data.len()) as u64, 2);
+    tlv.extend(OUI);
+    push_number(&mut tlv, u64::from(magic), 2);
+    tlv.push(VERSION);
+    push_number(&mut tlv, u64::from(number), 2);
+    tlv.extend_from_slice(data);
+    tlv
 }
 
 /// The number and the data of a TLV that has the White Rabbit form under this

@@ -1,11 +1,13 @@
 //! Writing a message into lent octets, as IEEE 1588-2008, clause 13, lays it
 //! out: reserved fields zero, controlField by type, messageLength from the tail.
 
-use super::message::{Announce, Body, Message, MessageType, PortIdentity, Timestamp, SECOND};
+use super::message::{
+    Announce, Body, Header, Message, MessageType, PortIdentity, Timestamp, SECOND,
+};
 use super::octets::push_number;
 use super::refusal::{refuse_if, Refusal};
 use super::tlv::tlvs_of;
-use super::white_rabbit::check_sizes;
+use super::white_rabbit::{check_sizes, link_message_tlv, LinkMessage};
 
 /// The greatest messageLength.
 const LONGEST: usize = 65_535;
@@ -20,6 +22,23 @@ pub fn write(message: &Message, magic: u16, room: &mut [u8]) -> Result<usize, Re
     refuse_if(room.len() < octets.len(), Refusal::Room)?;
     room[..octets.len()].copy_from_slice(&octets);
     Ok(octets.len())
+}
+
+/// Writes, as `write` does, a Signaling to a target whose tail is the one TLV
+/// of a link message: 18, then 16.
+pub fn write_signaling(
+    header: Header,
+    target: PortIdentity,
+    message: LinkMessage,
+    magic: u16,
+    room: &mut [u8],
+) -> Result<usize, Refusal> {
+    let signaling = Message {
+        header,
+        body: Body::Signaling(target),
+        tail: &link_message_tlv(message, magic),
+    };
+    write(&signaling, magic, room)
 }
 
 /// Whether all values fit their fields, the length fits its own, and reading

@@ -4,27 +4,28 @@
 
 use super::candidate_tokens::{candidate, data_set, list, quality};
 use super::lines::LONGEST_LINE;
-use super::link_tokens::{link_event, link_settings};
+use super::link_tokens::{link_event, link_message, link_settings};
 use super::message_tokens;
 use super::show;
 use super::tokens::Tokens;
 use crate::engine::candidate::Candidate;
 use crate::engine::clock::Clock;
 use crate::engine::comparison::compare;
-use crate::engine::decision::decide;
+use crate::engine::decision::{decide, parent};
 use crate::engine::delay::{measure, Exchange, Stamp};
 use crate::engine::message::{Message, MessageType};
 use crate::engine::origin::origin;
 use crate::engine::ranking::{merge, rank};
 use crate::engine::reading::{look_up, read, read_link_message, read_suffix};
 use crate::engine::refusal::Refusal;
-use crate::engine::writing::write;
+use crate::engine::white_rabbit::suffix_tlv;
+use crate::engine::writing::{write, write_signaling};
 
 /// The answer to a line that is no call.
 pub const BAD_LINE: &str = "bad line";
 /// The answer of a call that has nothing to hand back.
 const OK: &str = "ok";
-/// The greatest buffer that `write` may be given.
+/// The greatest buffer that `write` and `signal` may be given.
 const GREATEST_ROOM: usize = 70_000;
 /// What the buffer holds before a message is written.
 const UNWRITTEN: u8 = 0xa5;
@@ -55,17 +56,22 @@ fn call(clock: &mut Clock, mut tokens: Tokens) -> Option<String> {
         b"suffix" => answer_suffix(clock, tokens),
         b"linkmessage" => answer_link_message(clock, tokens),
         b"write" => answer_write(clock, tokens),
+        b"suffixtlv" => answer_suffix_tlv(clock, tokens),
+        b"signal" => answer_signal(clock, tokens),
         b"origin" => answer_origin(clock, tokens),
         b"compare" => answer_compare(tokens),
         b"rank" => answer_rank(tokens),
         b"merge" => answer_merge(tokens),
         b"decide" => answer_decide(clock, tokens),
+        b"parent" => answer_parent(clock, tokens),
         b"delay" => answer_delay(tokens),
         b"linksettings" => answer_link_settings(clock, tokens),
         b"link" => answer_link(clock, tokens),
         b"interval" => answer_interval(clock, tokens),
         b"take" => answer_take(clock, tokens),
         b"candidates" => answer_candidates(clock, tokens),
+        b"best" => answer_best(clock, tokens),
+        b"all" => answer_all(clock, tokens),
         b"records" => answer_records(clock, tokens),
         _ => None,
     }
@@ -173,18 +179,47 @@ fn answer_write(clock: &Clock, mut tokens: Tokens) -> Option<String> {
     };
     let tail = tokens.octets()?;
     tokens.end()?;
+    written(room, |buffer| {
+        let body = body.ok_or(Refusal::Field)?;
+        let tail = &tail;
+        write(&Message { header, body, tail }, clock.magic, buffer)
+    })
+}
+
+/// The answer of a call that writes into a buffer of so many octets, with the
+/// whole buffer afterwards; none for a buffer that may not be given.
+fn written(room: usize, write: impl FnOnce(&mut [u8]) -> Result<usize, Refusal>) -> Option<String> {
     if room > GREATEST_ROOM {
         return None;
     }
     let mut buffer = vec![UNWRITTEN; room];
-    let written = body.ok_or(Refusal::Field).and_then(|body| {
-        let tail = &tail;
-        write(&Message { header, body, tail }, clock.magic, &mut buffer)
-    });
+    let result = write(&mut buffer);
     let shown = show::octets(&buffer);
-    Some(match written {
+    Some(match result {
         Ok(length) => format!("ok {length} {shown}"),
         Err(refusal) => format!("{} {shown}", refused(refusal)),
+    })
+}
+
+/// `suffixtlv WRFLAGS`
+fn answer_suffix_tlv(clock: &Clock, mut tokens: Tokens) -> Option<String> {
+    let wr_flags = tokens.number()?;
+    tokens.end()?;
+    let tlv = suffix_tlv(wr_flags, clock.magic);
+    Some(format!("ok {}", show::octets(&tlv)))
+}
+
+/// `signal ROOM TRANSPORT DOMAIN FLAGS CORRECTION CLOCK PORT SEQUENCE INTERVAL
+/// TARGETCLOCK TARGETPORT NUMBER VALUES`
+fn answer_signal(clock: &Clock, mut tokens: Tokens) -> Option<String> {
+    let room = tokens.number()?;
+    let header = message_tokens::header(&mut tokens)?;
+    let target = tokens.identity()?;
+    let message = link_message(&mut tokens)?;
+    tokens.end()?;
+    written(room, |buffer| {
+        let message = message.ok_or(Refusal::Field)?;
+        write_signaling(header, target, message, clock.magic, buffer)
     })
 }
 
@@ -242,7 +277,18 @@ fn answer_decide(clock: &Clock, mut tokens: Tokens) -> Option<String> {
     tokens.end()?;
     let decision = decide(&clock.own_set(), port, &ranked, port_best.as_ref());
     Some(match decision {
-        Ok(decision) => format!("{decision:?}"),
+        Ok(decision) => show::decision(decision).to_string(),
+        Err(refusal) => refused(refusal),
+    })
+}
+
+/// `parent LIST`
+fn answer_parent(clock: &Clock, mut tokens: Tokens) -> Option<String> {
+    let ranked = list(&mut tokens)?;
+    tokens.end()?;
+    Some(match parent(&clock.own_set(), &ranked) {
+        Ok(Some(ebest)) => format!("found {}", show::candidate(&ebest)),
+        Ok(None) => "none".to_string(),
         Err(refusal) => refused(refusal),
     })
 }
@@ -342,6 +388,25 @@ fn answer_candidates(clock: &Clock, mut tokens: Tokens) -> Option<String> {
     let time = tokens.number()?;
     tokens.end()?;
     Some(listed(clock.candidates(port, time)))
+}
+
+/// `best PORT TIME`
+fn answer_best(clock: &Clock, mut tokens: Tokens) -> Option<String> {
+    let port = tokens.number()?;
+    let time = tokens.number()?;
+    tokens.end()?;
+    let best = clock.best(port, time);
+    Some(found(best, |candidate| show::candidate(&candidate)))
+}
+
+/// `all TIME`
+fn answer_all(clock: &Clock, mut tokens: Tokens) -> Option<String> {
+    let time = tokens.number()?;
+    tokens.end()?;
+    Some(match clock.decide_all(time) {
+        Ok(decided) => format!("ok {}", show::decided(&decided)),
+        Err(refusal) => refused(refusal),
+    })
 }
 
 /// `records PORT`

@@ -1,7 +1,10 @@
-//! Link settings and events, taken from a line's tokens.
+//! Link settings, events and messages, taken from a line's tokens.
 
 use super::tokens::Tokens;
 use crate::engine::link::{LinkEvent, LinkSettings};
+use crate::engine::white_rabbit::{
+    LinkMessage, CALIBRATE, CALIBRATED, LOCK, LOCKED, SLAVE_PRESENT, WR_MODE_ON,
+};
 
 /// CONFIG CALIBRATE RETRY PERIOD TX RX
 pub fn link_settings(tokens: &mut Tokens) -> Option<LinkSettings> {
@@ -28,4 +31,25 @@ pub fn link_event(tokens: &mut Tokens) -> Option<LinkEvent> {
         b"stop" => Some(LinkEvent::Stop),
         _ => None,
     }
+}
+
+/// NUMBER VALUES; `Some(None)` is a number that is no link message's, which has
+/// no values.
+pub fn link_message(tokens: &mut Tokens) -> Option<Option<LinkMessage>> {
+    Some(match tokens.number::<u16>()? {
+        SLAVE_PRESENT => Some(LinkMessage::SlavePresent),
+        LOCK => Some(LinkMessage::Lock),
+        LOCKED => Some(LinkMessage::Locked),
+        CALIBRATE => Some(LinkMessage::Calibrate {
+            pattern: tokens.number()?,
+            retry: tokens.number()?,
+            period: tokens.number()?,
+        }),
+        CALIBRATED => Some(LinkMessage::Calibrated {
+            delta_tx: tokens.number()?,
+            delta_rx: tokens.number()?,
+        }),
+        WR_MODE_ON => Some(LinkMessage::WrModeOn),
+        _ => None,
+    })
 }

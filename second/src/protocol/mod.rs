@@ -8,4 +8,6 @@ pub mod message_tokens;
 pub mod show;
 pub mod tokens;
 #[cfg(test)]
+mod worked_lines;
+#[cfg(test)]
 mod worked_rows;

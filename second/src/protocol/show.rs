@@ -2,7 +2,9 @@
 //! numbers are decimal, octets are lower case and `-` where there are none.
 
 use crate::engine::candidate::Candidate;
+use crate::engine::clock::Decided;
 use crate::engine::comparison::{Side, Verdict};
+use crate::engine::decision::Decision;
 use crate::engine::link::{LinkState, Step};
 use crate::engine::message::{Announce, Body, Header, Message, PortIdentity, Timestamp};
 use crate::engine::senders::{Record, Senders};
@@ -120,6 +122,29 @@ pub fn verdict(verdict: Verdict) -> &'static str {
     }
 }
 
+/// The eighteen ports' decisions, then the list they follow from.
+pub fn decided(decided: &Decided) -> String {
+    let mut text = String::new();
+    for &port in &decided.ports {
+        text.push_str(decision(port));
+        text.push(' ');
+    }
+    text + &list(&decided.ranked)
+}
+
+/// A decision's name.
+pub fn decision(decision: Decision) -> &'static str {
+    match decision {
+        Decision::M1 => "M1",
+        Decision::M2 => "M2",
+        Decision::M3 => "M3",
+        Decision::S1 => "S1",
+        Decision::S2 => "S2",
+        Decision::P1 => "P1",
+        Decision::P2 => "P2",
+    }
+}
+
 /// A count, then that many candidates.
 pub fn list(candidates: &[Candidate]) -> String {
     let mut text = candidates.len().to_string();
@@ -131,7 +156,7 @@ pub fn list(candidates: &[Candidate]) -> String {
 }
 
 /// A candidate's eleven numbers.
-fn candidate(candidate: &Candidate) -> String {
+pub fn candidate(candidate: &Candidate) -> String {
     format!(
         "{} {} {} {} {} {} {} {} {} {}",
         candidate.quality.priority1,

@@ -4,7 +4,7 @@ use super::answer::answer;
 use crate::engine::clock::Clock;
 
 /// The answers of a fresh clock to some lines.
-fn answers(lines: &[&str]) -> Vec<String> {
+pub fn answers(lines: &[&str]) -> Vec<String> {
     let mut clock = Clock::fresh();
     lines
         .iter()
@@ -13,7 +13,7 @@ fn answers(lines: &[&str]) -> Vec<String> {
 }
 
 /// The answer of a fresh clock to one line.
-fn only(line: &str) -> String {
+pub fn only(line: &str) -> String {
     answers(&[line]).remove(0)
 }
 
@@ -193,6 +193,8 @@ fn decisions_at_their_edges() {
 #[test]
 fn the_protocols_own_examples() {
     assert_eq!(only("merge 0 0"), "ok 0");
+    assert_eq!(only("best 18 0"), "absent");
+    assert_eq!(only("parent 0"), "none");
     assert_eq!(only("read 0b02"), "refused 1");
     assert_eq!(only("read 0b02 "), "bad line");
     assert_eq!(

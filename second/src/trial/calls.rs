@@ -1,4 +1,5 @@
-//! The calls of the protocol by name.
+//! The calls of the protocol that lines can be made of, by name.  This list is
+//! the one place that says which.
 
 /// A call that lines can be made of.
 #[derive(Clone, Copy, Debug, PartialEq, Eq)]
@@ -13,22 +14,27 @@ pub enum Call {
     Suffix,
     LinkMessage,
     Write,
+    SuffixTlv,
+    Signal,
     Origin,
     Compare,
     Rank,
     Merge,
     Decide,
+    Parent,
     Delay,
     LinkSettings,
     Link,
     Interval,
     Take,
     Candidates,
+    Best,
+    All,
     Records,
 }
 
 /// Every call with its name.
-pub const CALLS: [(&str, Call); 22] = [
+pub const CALLS: [(&str, Call); 27] = [
     ("fresh", Call::Fresh),
     ("clock", Call::Clock),
     ("domain", Call::Domain),
@@ -39,17 +45,22 @@ pub const CALLS: [(&str, Call); 22] = [
     ("suffix", Call::Suffix),
     ("linkmessage", Call::LinkMessage),
     ("write", Call::Write),
+    ("suffixtlv", Call::SuffixTlv),
+    ("signal", Call::Signal),
     ("origin", Call::Origin),
     ("compare", Call::Compare),
     ("rank", Call::Rank),
     ("merge", Call::Merge),
     ("decide", Call::Decide),
+    ("parent", Call::Parent),
     ("delay", Call::Delay),
     ("linksettings", Call::LinkSettings),
     ("link", Call::Link),
     ("interval", Call::Interval),
     ("take", Call::Take),
     ("candidates", Call::Candidates),
+    ("best", Call::Best),
+    ("all", Call::All),
     ("records", Call::Records),
 ];
 
@@ -57,10 +68,13 @@ pub const CALLS: [(&str, Call); 22] = [
 /// are put between the others in any case.
 const PLAIN_SETTINGS: usize = 5;
 
-/// The calls that a list of names asks for; `all` is every call that is no
-/// plain setting.  None if a name is unknown.
+/// What asks for every call that is no plain setting, where it stands alone; in
+/// a list it is the call of that name.
+const EVERY_CALL: &str = "all";
+
+/// The calls that a list of names asks for.  None if a name is unknown.
 pub fn calls_named(names: &str) -> Option<Vec<Call>> {
-    if names == "all" {
+    if names == EVERY_CALL {
         let calls = CALLS[PLAIN_SETTINGS..].iter().map(|(_, call)| *call);
         return Some(calls.collect());
     }

@@ -20,7 +20,7 @@ pub fn port(random: &mut Random) -> u8 {
 }
 
 /// Every port of the clock once, in any order.
-fn all_ports(random: &mut Random) -> Vec<u8> {
+pub fn all_ports(random: &mut Random) -> Vec<u8> {
     let mut ports: Vec<u8> = (1..=18).collect();
     for at in 1..ports.len() {
         ports.swap(at, random.place(at + 1));

@@ -1,5 +1,7 @@
 //! Two implementations side by side: lines go to another program's standard
-//! input, and its answers are compared with ours one by one.
+//! input, and its answers are compared with ours one by one.  A thread of its
+//! own writes the lines, so that neither side waits for the other: a program
+//! may answer each line as it comes, or all of them at the end.
 
 use super::generator::{Generator, Vector};
 use std::io::{self, BufRead, BufReader, BufWriter, Write};
@@ -13,11 +15,13 @@ const SHOWN: u64 = 5;
 const SHOWN_CHARACTERS: usize = 300;
 
 /// What a comparison found.
+#[derive(Default)]
 pub struct Comparison {
     pub lines: u64,
     pub differing: u64,
-    /// Whether the program ended without a fault of its own.
-    pub ended_well: bool,
+    /// Whether the program did not see the lines through to the last, or ended
+    /// with a fault of its own.
+    pub failed: bool,
 }
 
 /// Gives a program `count` lines and compares its answers with ours; the first
@@ -32,18 +36,23 @@ pub fn compare(program: &[String], generator: Generator, count: u64) -> io::Resu
     let input = child.stdin.take().ok_or(io::ErrorKind::BrokenPipe)?;
     let writer = thread::spawn(move || feed(input, generator, count, &sender));
     let comparison = compare_answers(&mut child, vectors);
-    // A program that stopped reading shows in its answers; the feed has nothing to add.
-    let _ = writer.join();
+    let fed = writer.join().map_err(|_| io::ErrorKind::Other)?;
     let status = child.wait()?;
     let mut comparison = comparison?;
+    if let (Err(error), false) = (fed, comparison.failed) {
+        let last = comparison.lines;
+        println!("the program stopped reading before the end of line {last}: {error}");
+        comparison.failed = true;
+    }
     if !status.success() {
         println!("the program ended with {status}");
-        comparison.ended_well = false;
+        comparison.failed = true;
     }
     Ok(comparison)
 }
 
-/// Writes the lines to the program and hands each on with our answer.
+/// Writes the lines to the program.  Each is handed on with our answer before
+/// that, so that a line that cannot be written is known too.
 fn feed(
     input: ChildStdin,
     mut generator: Generator,
@@ -53,24 +62,22 @@ fn feed(
     let mut input = BufWriter::new(input);
     for _ in 0..count {
         let vector = generator.next_vector();
-        input.write_all(&vector.line)?;
-        input.write_all(b"\n")?;
+        let line = vector.line.clone();
         if vectors.send(vector).is_err() {
             break;
         }
+        input.write_all(&line)?;
+        input.write_all(b"\n")?;
     }
     input.flush()
 }
 
-/// Reads the program's answers and compares each with ours.
+/// Reads the program's answers and compares each with ours; the first line
+/// without an answer ends it.
 fn compare_answers(child: &mut Child, vectors: Receiver<Vector>) -> io::Result<Comparison> {
     let output = child.stdout.take().ok_or(io::ErrorKind::BrokenPipe)?;
     let mut output = BufReader::new(output);
-    let mut found = Comparison {
-        lines: 0,
-        differing: 0,
-        ended_well: true,
-    };
+    let mut found = Comparison::default();
     let mut theirs = Vec::new();
     for vector in vectors {
         found.lines += 1;
@@ -80,12 +87,15 @@ fn compare_answers(child: &mut Child, vectors: Receiver<Vector>) -> io::Result<C
         theirs.clear();
         if output.read_until(b'\n', &mut theirs)? == 0 {
             found.differing += 1;
-            show_difference(&found, &vector, ours, b"(no answer)");
+            found.failed = true;
+            show_difference(found.lines, &vector, ours, b"(no answer)");
             return Ok(found);
         }
         if theirs.strip_suffix(b"\n") != Some(ours.as_bytes()) {
             found.differing += 1;
-            show_difference(&found, &vector, ours, &theirs);
+            if found.differing <= SHOWN {
+                show_difference(found.lines, &vector, ours, &theirs);
+            }
         }
     }
     theirs.clear();
@@ -96,13 +106,11 @@ fn compare_answers(child: &mut Child, vectors: Receiver<Vector>) -> io::Result<C
     Ok(found)
 }
 
-/// Prints one of the first differences.
-fn show_difference(found: &Comparison, vector: &Vector, ours: &str, theirs: &[u8]) {
-    if found.differing <= SHOWN {
-        println!("line {}: {}", found.lines, shorten(&vector.line));
-        println!("  ours:   {}", shorten(ours.as_bytes()));
-        println!("  theirs: {}", shorten(theirs));
-    }
+/// Prints a difference.
+fn show_difference(number: u64, vector: &Vector, ours: &str, theirs: &[u8]) {
+    println!("line {number}: {}", shorten(&vector.line));
+    println!("  ours:   {}", shorten(ours.as_bytes()));
+    println!("  theirs: {}", shorten(theirs));
 }
 
 /// Characters as they can be shown, the middle left out of many.

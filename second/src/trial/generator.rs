@@ -9,11 +9,13 @@ use super::history_lines as history;
 use super::link_lines::{link_lines, link_settings_line, Wires};
 use super::malformed::{longest, malformed, silent};
 use super::origin_lines::origin_line;
+use super::question_lines::{all_line, best_line};
 use super::random::Random;
-use super::ranking_lines::{decide_line, merge_line, rank_line};
+use super::ranking_lines::{decide_line, merge_line, parent_line, rank_line};
 use super::reading_lines as reading;
+use super::scene_lines::{later_line, scene_lines};
 use super::settings_lines as settings;
-use super::writing_lines::write_line;
+use super::writing_lines::{signal_line, suffix_tlv_line, write_line};
 use crate::engine::clock::Clock;
 use crate::protocol::answer::answer;
 use crate::protocol::tokens::Tokens;
@@ -97,15 +99,40 @@ impl Generator {
     fn asked_for(&mut self) -> Vec<u8> {
         let call = self.random.pick(&self.calls);
         let share = self.random.below(40);
+        if matches!(call, Call::Best | Call::All) && share < 8 {
+            return self.line_of_scene(share == 0);
+        }
         let beside = match call {
             Call::Link if share < 4 => Call::LinkSettings,
             Call::Take if share < 1 => Call::Interval,
             Call::Candidates | Call::Records if share < 20 => Call::Take,
             Call::Candidates | Call::Records if share < 21 => Call::Interval,
+            Call::Best | Call::All if share < 9 => Call::Interval,
+            Call::Best | Call::All if share < 10 => Call::Own,
+            Call::Parent if share < 2 => Call::Own,
+            Call::Parent if share < 3 => Call::Clock,
+            Call::Signal | Call::SuffixTlv if share < 3 => Call::Magic,
             Call::Interval if share < 30 && self.calls.contains(&Call::Take) => Call::Take,
             _ => call,
         };
         self.line_of(beside)
+    }
+
+    /// The first line of a new scene, or one that carries on what there is.
+    fn line_of_scene(&mut self, is_new: bool) -> Vec<u8> {
+        if !is_new {
+            if let Some(line) = later_line(&mut self.random, &self.clock) {
+                return line;
+            }
+        }
+        let lines = scene_lines(&mut self.random, &self.clock, &self.calls);
+        self.first_of(lines)
+    }
+
+    /// The first of some lines; the others are to come.
+    fn first_of(&mut self, mut lines: Vec<Vec<u8>>) -> Vec<u8> {
+        self.coming.extend(lines.drain(1..));
+        lines.remove(0)
     }
 
     /// A line of a call.
@@ -124,25 +151,28 @@ impl Generator {
             Call::Suffix => reading::suffix_line(random, magic),
             Call::LinkMessage => reading::link_message_line(random, magic),
             Call::Write => write_line(random, magic),
+            Call::SuffixTlv => suffix_tlv_line(random),
+            Call::Signal => signal_line(random),
             Call::Origin => origin_line(random, magic),
             Call::Compare => compare_line(random),
             Call::Rank => rank_line(random, own),
             Call::Merge => merge_line(random, own),
             Call::Decide => decide_line(random, own),
+            Call::Parent => parent_line(random, own),
             Call::Delay => delay_line(random),
             Call::LinkSettings => link_settings_line(random),
             Call::Link => {
-                let mut lines = link_lines(random, &self.clock, &mut self.wires);
-                self.coming.extend(lines.drain(1..));
-                lines.remove(0)
+                let lines = link_lines(random, &self.clock, &mut self.wires);
+                self.first_of(lines)
             }
-            Call::Interval => history::interval_line(random),
+            Call::Interval => history::any_interval_line(random),
             Call::Take => {
-                let mut lines = history::take_lines(random, &self.clock);
-                self.coming.extend(lines.drain(1..));
-                lines.remove(0)
+                let lines = history::take_lines(random, &self.clock);
+                self.first_of(lines)
             }
             Call::Candidates => history::candidates_line(random, &self.clock),
+            Call::Best => best_line(random, &self.clock),
+            Call::All => all_line(random, &self.clock),
             Call::Records => history::any_records_line(random),
         }
     }
@@ -153,4 +183,70 @@ fn refused_to_take(vector: &Vector) -> Option<u8> {
     let mut tokens = Tokens::of(&vector.line);
     let refused = vector.answer.as_ref()?.starts_with("refused");
     (refused && tokens.word()? == b"take").then(|| tokens.number())?
+}
+
+#[cfg(test)]
+mod tests {
+    use super::*;
+    use crate::trial::calls::{calls_named, CALLS};
+
+    /// The answers to so many lines of a call among those of some calls.
+    fn answers_of(name: &str, calls: &str, count: usize) -> Vec<String> {
+        let mut generator = Generator::new(calls_named(calls).unwrap(), 7);
+        let begin = format!("{name} ");
+        (0..count)
+            .map(|_| generator.next_vector())
+            .filter(|vector| vector.line.starts_with(begin.as_bytes()))
+            .filter_map(|vector| vector.answer)
+            .collect()
+    }
+
+    /// Asserts that at least so many answers hold each of some words.
+    fn assert_often(answers: &[String], least: usize, words: &[&str]) {
+        for word in words {
+            let holding = answers.iter().filter(|answer| answer.contains(word));
+            assert!(holding.count() >= least, "{word}");
+        }
+    }
+
+    #[test]
+    fn every_decision_and_refusal_comes_often() {
+        let all = answers_of("all", "best,all", 6000);
+        let decisions = ["M1", "M2", "M3", "S1", "S2", "P1", "P2"];
+        assert_often(&all, 50, &decisions);
+        assert_often(&all, 50, &["refused 11"]);
+        let best = answers_of("best", "best,all", 6000);
+        assert_often(&best, 30, &["found", "absent", "refused 8", "refused 11"]);
+        let parent = answers_of("parent", "parent", 2000);
+        assert_often(&parent, 100, &["found", "none", "refused 15"]);
+        let signal = answers_of("signal", "signal", 2000);
+        let kinds = ["ok 56", "ok 62", "ok 72", "refused 16", "refused 18"];
+        assert_often(&signal, 100, &kinds);
+        let suffix = answers_of("suffixtlv", "suffixtlv", 2000);
+        assert_often(&suffix, 50, &["0120000000", "0120000007", "012000000f"]);
+    }
+
+    #[test]
+    fn every_call_is_answered_and_malformed() {
+        for (name, _) in CALLS {
+            let answers = answers_of(name, &format!("{name},{name}"), 2000);
+            let bad = answers.iter().filter(|answer| *answer == "bad line");
+            let bad = bad.count();
+            assert!(
+                bad > 0 && (name == "fresh" || bad < answers.len() / 2),
+                "{name}"
+            );
+        }
+    }
+
+    #[test]
+    fn the_same_seed_gives_the_same_lines() {
+        let lines = |seed| {
+            let mut generator = Generator::new(calls_named("all").unwrap(), seed);
+            let lines: Vec<_> = (0..2000).map(|_| generator.next_vector().line).collect();
+            lines
+        };
+        assert_eq!(lines(7), lines(7));
+        assert_ne!(lines(7), lines(8));
+    }
 }

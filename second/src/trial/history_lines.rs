@@ -53,7 +53,7 @@ fn take_line(random: &mut Random, clock: &Clock) -> Vec<u8> {
 }
 
 /// The line of `take` for a port, a time and a message.
-fn line_of_take(random: &mut Random, port: u8, time: u64, draft: &Draft) -> Vec<u8> {
+pub fn line_of_take(random: &mut Random, port: u8, time: u64, draft: &Draft) -> Vec<u8> {
     CallLine::named("take")
         .number(random, port)
         .number(random, time)
@@ -82,9 +82,14 @@ pub fn records_line(random: &mut Random, port: u8) -> Vec<u8> {
     CallLine::named("records").number(random, port).text()
 }
 
-/// A line of `interval`.
-pub fn interval_line(random: &mut Random) -> Vec<u8> {
+/// A line of `interval` for any port.
+pub fn any_interval_line(random: &mut Random) -> Vec<u8> {
     let port = asked_port(random);
+    interval_line(random, port)
+}
+
+/// A line of `interval` for a port.
+pub fn interval_line(random: &mut Random, port: u8) -> Vec<u8> {
     let log_interval = match random.below(8) {
         0 => random.pick(&[-4, 5, -128, 127, 6, -5]),
         1 => values::octet(random) as i8,
@@ -108,7 +113,7 @@ fn asked_port(random: &mut Random) -> u8 {
 }
 
 /// The records to aim at: the port's, or those of port 1 where it has none.
-fn senders_of(clock: &Clock, port: u8) -> &Senders {
+pub fn senders_of(clock: &Clock, port: u8) -> &Senders {
     clock.senders(port).unwrap_or_else(|_| clock.first_port())
 }
 
@@ -132,7 +137,7 @@ fn time_to_take(random: &mut Random, senders: &Senders) -> u64 {
 
 /// The time of a question: at the last time, at the end of a window, later, or
 /// too early.
-fn time_to_ask(random: &mut Random, senders: &Senders) -> u64 {
+pub fn time_to_ask(random: &mut Random, senders: &Senders) -> u64 {
     let last = senders.last_time;
     match random.below(20) {
         0..=5 => last,
@@ -145,7 +150,7 @@ fn time_to_ask(random: &mut Random, senders: &Senders) -> u64 {
 }
 
 /// A time below the last, where there is one.
-fn before(random: &mut Random, last: u64) -> u64 {
+pub fn before(random: &mut Random, last: u64) -> u64 {
     match random.below(4) {
         0 => 0,
         1 => random.below(last.max(1)),
@@ -154,7 +159,7 @@ fn before(random: &mut Random, last: u64) -> u64 {
 }
 
 /// A time that only 64 bits hold.
-fn far_time(random: &mut Random) -> u64 {
+pub fn far_time(random: &mut Random) -> u64 {
     let times = [u64::MAX, u64::MAX - 1, 1 << 63, i64::MAX as u64, 1 << 62];
     random.pick(&times)
 }
@@ -168,7 +173,7 @@ fn edge_of_oldest(random: &mut Random, senders: &Senders) -> u64 {
 }
 
 /// The end of the window after one of a record's receipts, or one later.
-fn edge_of_any(random: &mut Random, senders: &Senders) -> u64 {
+pub fn edge_of_any(random: &mut Random, senders: &Senders) -> u64 {
     let Some(record) = some_record(random, senders) else {
         return senders.last_time;
     };

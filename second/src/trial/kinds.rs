@@ -2,7 +2,8 @@
 
 use super::calls::CALLS;
 use super::generator::Vector;
-use std::collections::BTreeMap;
+use crate::engine::candidate::PORT_COUNT;
+use std::collections::{BTreeMap, BTreeSet};
 
 /// The counts so far, by call and kind.
 #[derive(Default)]
@@ -49,7 +50,11 @@ fn kind_of(vector: &Vector) -> String {
         ("lookup", "found") => "found".to_string(),
         ("linkmessage", "found") => format!("found {}", words[1]),
         ("write", "ok") => format!("ok type {}", written_type(words[2])),
-        ("write", "refused") => format!("refused {}", words[1]),
+        ("write" | "signal", "refused") => format!("refused {}", words[1]),
+        ("signal", "ok") => format!("ok {} octets", words[1]),
+        ("suffixtlv", "ok") => "ok".to_string(),
+        ("best" | "parent", "found") => "found".to_string(),
+        ("all", "ok") => decided_kind(&words[1..]),
         ("origin", "ok") => "ok".to_string(),
         ("link", "ok") => format!(
             "ok {} retries {} report {} sent {}",
@@ -66,6 +71,15 @@ fn kind_of(vector: &Vector) -> String {
         ),
         _ => answer.clone(),
     }
+}
+
+/// Which decisions there are among eighteen, and how many entries the list
+/// behind them has.
+fn decided_kind(words: &[&str]) -> String {
+    let (decisions, list) = words.split_at(PORT_COUNT);
+    let different: BTreeSet<&str> = decisions.iter().copied().collect();
+    let different: Vec<&str> = different.into_iter().collect();
+    format!("ok {}, {} entries", different.join(" "), list[0])
 }
 
 /// The type of the message that written octets begin with.

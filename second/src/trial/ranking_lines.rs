@@ -1,4 +1,4 @@
-//! Lines of `rank`, `merge` and `decide`.
+//! Lines of `rank`, `merge`, `decide` and `parent`.
 
 use super::call_line::CallLine;
 use super::candidates::{
@@ -55,6 +55,41 @@ pub fn decide_line(random: &mut Random, own: &DataSet) -> Vec<u8> {
     match best {
         Some(best) => push_candidate(random, line.word("best"), &best).text(),
         None => line.word("none").text(),
+    }
+}
+
+/// A line of `parent`: a list, ranked or nearly, that our own set leads or not.
+pub fn parent_line(random: &mut Random, own: &DataSet) -> Vec<u8> {
+    let count = match random.below(300) {
+        0 => random.pick(&[288, 399, 400, 401]),
+        _ => random.pick(&[0, 1, 1, 2, 3, 4, 6, 8, 12]),
+    };
+    let mut run = family(random, own, count);
+    match random.below(5) {
+        0 | 1 => outdo_own(own, &mut run),
+        2 | 3 => match_own(random, own, &mut run),
+        _ => {}
+    }
+    let list = match random.below(10) {
+        _ if count > 200 => run,
+        0 => best_of_ports(&run),
+        _ => nearly_ranked(random, &run),
+    };
+    push_list(random, CallLine::named("parent"), &list).text()
+}
+
+/// Gives all of a run our own set's quality and, half of the time, our clock as
+/// grandmaster, none or one step away.
+fn match_own(random: &mut Random, own: &DataSet, run: &mut [Candidate]) {
+    let ours = random.chance(1, 2);
+    for one in run {
+        one.quality = own.quality;
+        if ours {
+            let port = one.port;
+            *one = looking_back(random, own, port);
+            one.quality = own.quality;
+            one.port = port;
+        }
     }
 }
 

@@ -13,6 +13,11 @@ pub fn fresh_line() -> Vec<u8> {
 /// A line of `clock`.
 pub fn clock_line(random: &mut Random) -> Vec<u8> {
     let clock = values::clock(random);
+    line_of_clock(random, clock)
+}
+
+/// The line of `clock` for an identity.
+pub fn line_of_clock(random: &mut Random, clock: u64) -> Vec<u8> {
     CallLine::named("clock").number(random, clock).text()
 }
 
@@ -39,7 +44,12 @@ pub fn own_line(random: &mut Random) -> Vec<u8> {
         variance: random.pick(&[0xffff, 0xffff, 0, 1, 0x4e5d, 0xfffe]),
         priority2: random.pick(&[128, 128, 0, 1, 127, 129, 255]),
     };
-    CallLine::named("own").quality(random, &quality).text()
+    line_of_own(random, &quality)
+}
+
+/// The line of `own` for a quality.
+pub fn line_of_own(random: &mut Random, quality: &Quality) -> Vec<u8> {
+    CallLine::named("own").quality(random, quality).text()
 }
 
 /// Our own class, at the edges of 1 to 127 and beyond.

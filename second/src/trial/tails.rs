@@ -203,3 +203,12 @@ pub fn sound_tlv(random: &mut Random, magic: u16, usual: &[u16]) -> Vec<u8> {
 pub fn link_numbers() -> &'static [u16] {
     &LISTED[..6]
 }
+
+/// A number that a Signaling does not carry, the suffix's among them.
+pub fn other_number(random: &mut Random) -> u16 {
+    if random.chance(1, 4) {
+        ANN_SUFIX
+    } else {
+        unlisted_number(random)
+    }
+}

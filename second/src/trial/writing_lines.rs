@@ -1,16 +1,20 @@
-//! Lines of `write`: messages that fit, messages with one value that does not,
-//! and buffers about as large as the message.
+//! Lines of `write`, `signal` and `suffixtlv`: messages that fit, messages with
+//! one value that does not, and buffers about as large as the message.
 
 use super::call_line::CallLine;
 use super::messages;
 use super::random::Random;
 use super::tails;
+use super::values;
 use crate::engine::message::{
     Announce, Body, Header, MessageType, Timestamp, LISTED_TYPES, SECOND,
 };
+use crate::engine::white_rabbit::{data_size, CALIBRATE, CALIBRATED, PREFIX};
 
 /// The greatest buffer of the protocol.
 const GREATEST_ROOM: usize = 70_000;
+/// Values of transportSpecific that its four bits do not hold.
+const WIDE_TRANSPORTS: [u8; 6] = [16, 17, 32, 128, 240, 255];
 
 /// A line of `write`.
 pub fn write_line(random: &mut Random, magic: u16) -> Vec<u8> {
@@ -28,13 +32,76 @@ pub fn write_line(random: &mut Random, magic: u16) -> Vec<u8> {
             .text();
     }
     match random.below(16) {
-        0 => header.transport_specific = random.pick(&[16, 17, 32, 128, 240, 255]),
+        0 => header.transport_specific = random.pick(&WIDE_TRANSPORTS),
         1 | 2 => spoil_timestamp(random, &mut body),
         _ => {}
     }
     let line = line.number(random, message_type.number());
     let line = push_header(random, line, &header);
     push_body(random, line, &body).octets(random, &tail).text()
+}
+
+/// A line of `signal`: mostly one of the six link messages, now and then with
+/// another message's values, which makes a bad line.
+pub fn signal_line(random: &mut Random) -> Vec<u8> {
+    let number = signal_number(random);
+    let length = signal_length(number);
+    let room = room(random, length);
+    let mut header = messages::header(random);
+    if random.chance(1, 12) {
+        header.transport_specific = random.pick(&WIDE_TRANSPORTS);
+    }
+    let target = values::identity(random);
+    let line = CallLine::named("signal").number(random, room as u64);
+    let line = push_header(random, line, &header)
+        .identity(random, target)
+        .number(random, number);
+    let valued = if random.chance(1, 40) {
+        signal_number(random)
+    } else {
+        number
+    };
+    push_values(random, line, valued).text()
+}
+
+/// The number of a message to signal: one of the six, now and then another.
+fn signal_number(random: &mut Random) -> u16 {
+    match random.below(12) {
+        0 => tails::other_number(random),
+        1..=3 => CALIBRATE,
+        4..=6 => CALIBRATED,
+        _ => random.pick(tails::link_numbers()),
+    }
+}
+
+/// The octets of a Signaling with the one TLV of a message.
+fn signal_length(number: u16) -> usize {
+    let data = data_size(number).unwrap_or(0);
+    MessageType::Signaling.fixed_size() + 4 + PREFIX + data
+}
+
+/// The line with the values of a link message.
+fn push_values(random: &mut Random, line: CallLine, number: u16) -> CallLine {
+    let widths: &[u32] = match number {
+        CALIBRATE => &[8, 8, 32],
+        CALIBRATED => &[64, 64],
+        _ => &[],
+    };
+    widths.iter().fold(line, |line, &bits| {
+        let value = values::number(random, bits);
+        line.number(random, value)
+    })
+}
+
+/// A line of `suffixtlv`, of any sixteen bits.
+pub fn suffix_tlv_line(random: &mut Random) -> Vec<u8> {
+    let wr_flags = match random.below(4) {
+        0 => random.below(16) as u16,
+        1 => !(random.below(16) as u16),
+        2 => values::u16(random),
+        _ => random.word() as u16,
+    };
+    CallLine::named("suffixtlv").number(random, wr_flags).text()
 }
 
 /// A type number that is not listed.

@@ -1,16 +1,14 @@
 -- `hours` is safe and ends: the hours that are left fall.
 use Prim.Native.Nat.{_-_, _≤_}
-use lib.ListN.{length}
-use mathlib.Core.Path.{_≡_}
 use borrow.Author.Needs.{needs}
 use Rattle.day.proofs.hours.Statement.{statement}
 use Rattle.day.proofs.hours.Tie as tie
 
 abbrev Inv-loop : tie.InvT-loop
-Inv-loop words₀ links₀ before₀ out₀ at to₀ h₀ words links before out to h = (h ≤ 24) × (length out ≡ length out₀)
+Inv-loop words₀ links₀ before₀ h₀ words links before h = (h ≤ 24)
 
 abbrev μ-loop : tie.MeasureT-loop
-μ-loop words₀ links₀ before₀ out₀ at to₀ h₀ words links before out to h = 24 - h
+μ-loop words₀ links₀ before₀ h₀ words links before h = 24 - h
 
 loop-holds : tie.Need-loop-holds Inv-loop μ-loop
 loop-holds c = search needs
@@ -27,22 +25,10 @@ loop-less c = search needs
 loop-again : tie.Need-loop-again Inv-loop μ-loop
 loop-again c = search needs
 
-same-length : tie.Need-same-length Inv-loop μ-loop
-same-length c = search needs
-
 returns : tie.Need-returns Inv-loop μ-loop
 returns c = search needs
 
 pub hours-spec : {M : Type 1} → statement M
 hours-spec =
     tie.close
-    (tie.spec
-    Inv-loop
-    μ-loop
-    loop-holds
-    hour-requires
-    add-h
-    loop-less
-    loop-again
-    same-length
-    returns)
+    (tie.spec Inv-loop μ-loop loop-holds hour-requires add-h loop-less loop-again returns)

@@ -1,25 +1,32 @@
 -- `table` is safe and ends: the ports that are left fall.
 use Prim.Native.Nat.{_-_, _≤_}
-use lib.ListN.{length}
-use mathlib.Core.Path.{_≡_}
 use borrow.Author.Needs.{needs}
 use Rattle.day.proofs.table.Statement.{statement}
 use Rattle.day.proofs.table.Tie as tie
 
 abbrev Inv-loop : tie.InvT-loop
-Inv-loop out₀ at words now to₀ i₀ out to i = (i ≤ 18) × (length out ≡ length out₀)
+Inv-loop words now i₀ i = (i ≤ 18)
 
 abbrev μ-loop : tie.MeasureT-loop
-μ-loop out₀ at words now to₀ i₀ out to i = 18 - i
+μ-loop words now i₀ i = 18 - i
 
-slice-aggregate-text : tie.Need-slice-aggregate-text Inv-loop μ-loop
-slice-aggregate-text c = search needs
+slice-aggregate-say : tie.Need-slice-aggregate-say Inv-loop μ-loop
+slice-aggregate-say c = search needs
 
-text-requires : tie.Need-text-requires Inv-loop μ-loop
-text-requires c κs = search needs
+say-requires : tie.Need-say-requires Inv-loop μ-loop
+say-requires c κs = search needs
 
 loop-holds : tie.Need-loop-holds Inv-loop μ-loop
 loop-holds c = search needs
+
+add-port-told : tie.Need-add-port-told Inv-loop μ-loop
+add-port-told c = search needs
+
+cast-port-told : tie.Need-cast-port-told Inv-loop μ-loop
+cast-port-told c = search needs
+
+element-copy-out-port-told : tie.Need-element-copy-out-port-told Inv-loop μ-loop
+element-copy-out-port-told c = search needs
 
 port-told-requires : tie.Need-port-told-requires Inv-loop μ-loop
 port-told-requires c κs = search needs
@@ -33,9 +40,6 @@ loop-less c = search needs
 loop-again : tie.Need-loop-again Inv-loop μ-loop
 loop-again c = search needs
 
-same-length : tie.Need-same-length Inv-loop μ-loop
-same-length c = search needs
-
 returns : tie.Need-returns Inv-loop μ-loop
 returns c = search needs
 
@@ -45,12 +49,14 @@ table-spec =
     (tie.spec
     Inv-loop
     μ-loop
-    slice-aggregate-text
-    text-requires
+    slice-aggregate-say
+    say-requires
     loop-holds
+    add-port-told
+    cast-port-told
+    element-copy-out-port-told
     port-told-requires
     add-i
     loop-less
     loop-again
-    same-length
     returns)

@@ -22,11 +22,8 @@ loop-holds c = search needs
 event-requires : tie.Need-event-requires Inv-loop μ-loop
 event-requires c κs = search needs
 
-take-requires : tie.Need-take-requires Inv-loop μ-loop
-take-requires c κs = search needs
-
-risen-requires : tie.Need-risen-requires Inv-loop μ-loop
-risen-requires c κs = search needs
+turn-requires : tie.Need-turn-requires Inv-loop μ-loop
+turn-requires c κs = search needs
 
 add-i : tie.Need-add-i Inv-loop μ-loop
 add-i c = search needs
@@ -50,8 +47,7 @@ bring-up-spec =
     set-requires
     loop-holds
     event-requires
-    take-requires
-    risen-requires
+    turn-requires
     add-i
     loop-less
     loop-again

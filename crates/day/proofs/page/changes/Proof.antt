@@ -1,16 +1,14 @@
 -- `page::changes` is safe and ends: the decisions that are left fall.
 use Prim.Native.Nat.{_-_, _≤_}
-use lib.ListN.{length}
-use mathlib.Core.Path.{_≡_}
 use borrow.Author.Needs.{needs}
 use Rattle.day.proofs.page.changes.Statement.{statement}
 use Rattle.day.proofs.page.changes.Tie as tie
 
 abbrev Inv-loop : tie.InvT-loop
-Inv-loop out₀ at before now to₀ code₀ out to code = (code ≤ 8) × (length out ≡ length out₀)
+Inv-loop before now code₀ code = (code ≤ 8)
 
 abbrev μ-loop : tie.MeasureT-loop
-μ-loop out₀ at before now to₀ code₀ out to code = 8 - code
+μ-loop before now code₀ code = 8 - code
 
 loop-holds : tie.Need-loop-holds Inv-loop μ-loop
 loop-holds c = search needs
@@ -27,22 +25,10 @@ loop-less c = search needs
 loop-again : tie.Need-loop-again Inv-loop μ-loop
 loop-again c = search needs
 
-same-length : tie.Need-same-length Inv-loop μ-loop
-same-length c = search needs
-
 returns : tie.Need-returns Inv-loop μ-loop
 returns c = search needs
 
 pub changes-spec : {M : Type 1} → statement M
 changes-spec =
     tie.close
-    (tie.spec
-    Inv-loop
-    μ-loop
-    loop-holds
-    told-requires
-    add-code
-    loop-less
-    loop-again
-    same-length
-    returns)
+    (tie.spec Inv-loop μ-loop loop-holds told-requires add-code loop-less loop-again returns)

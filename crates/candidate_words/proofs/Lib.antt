@@ -1,0 +1,4 @@
+pub mod RunLaws
+pub mod Determined
+pub mod Kept
+pub mod Witnesses

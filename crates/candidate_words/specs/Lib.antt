@@ -1,0 +1,4 @@
+pub mod Candidates
+pub mod Fits
+pub mod Answers
+pub mod Runs

@@ -1,0 +1,26 @@
+-- `dz_write` meets its contract: what is written, and how many octets.
+use mathlib.Core.Path.{_∙_, ap}
+use Rattle.writer.specs.declared.writing.Written.{Written}
+use Rattle.message_words.specs.Writing.{writtenCode, writtenWords}
+use borrow.Author.Needs.{needs}
+use Rattle.dzervolat.proofs.writing.dz_write.Statement.{statement}
+use Rattle.dzervolat.proofs.writing.dz_write.Tie as tie
+
+write-requires : tie.Need-write-requires
+write-requires c κs = search needs
+
+put-written-requires : tie.Need-put-written-requires
+put-written-requires c κs = search needs
+
+same-length : tie.Need-same-length
+same-length c = search needs
+
+returns : tie.Need-returns
+returns c =
+    let w = c .before .before .before .before in
+    let e = w .write .ensures in
+    let l = w .before .before .before .before .args .length .now in
+    (c .put-written .ensures .0 ∙ ap writtenCode (e .0), (e .1, c .put-written .ensures .1 ∙ ap (λ (x : Written). writtenWords x l) (e .0)))
+
+pub dz-write-spec : {M : Type 1} → statement M
+dz-write-spec = tie.close (tie.spec write-requires put-written-requires same-length returns)

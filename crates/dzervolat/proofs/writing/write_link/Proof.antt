@@ -1,0 +1,60 @@
+-- `write_link` meets its contract: the words are looked at, then the Signaling is written.
+use mathlib.Core.Path.{_∙_}
+use Rattle.writer.specs.Writing.{writeOf, bufferOf}
+use Rattle.wr_tlvs.specs.Built.{signaling, linkOctets}
+use Rattle.words.proofs.Laws.{is-refused, is-passed}
+use borrow.Author.Needs.{needs}
+use Rattle.dzervolat.proofs.writing.write_link.Statement.{statement}
+use Rattle.dzervolat.proofs.writing.write_link.Tie as tie
+
+is-signaling-requires : tie.Need-is-signaling-requires
+is-signaling-requires c κs = search needs
+
+returns : tie.Need-returns
+returns c =
+    let w = c .before in
+    (is-refused _ _ (w .is-signaling .ensures) _ _ (c .if1 .taken), is-refused _ _ (w .is-signaling .ensures) _ _ (c .if1 .taken))
+
+header-of-requires : tie.Need-header-of-requires
+header-of-requires c κs = search needs
+
+identity-at-requires : tie.Need-identity-at-requires
+identity-at-requires c κs = search needs
+
+link-message-of-requires : tie.Need-link-message-of-requires
+link-message-of-requires c κs = search needs
+
+write-link-requires : tie.Need-write-link-requires
+write-link-requires c κs = search needs
+
+same-length : tie.Need-same-length
+same-length c = search needs
+
+returns-2 : tie.Need-returns-2
+returns-2 c =
+    let w = c .before .before in
+    let l = w .before .before in
+    let t = l .before in
+    let h = t .before in
+    let b = h .before in
+    let a = b .before .before .before .args in
+    let whole = b .before .is-signaling .ensures in
+    let o = a .out .now in (
+      is-passed _ _ whole _ _ (b .if1 .left)
+          (w .write-link .ensures .0 ∙ (λ i. writeOf (a .magic) (signaling (h .header-of .ensures i) (t .identity-at .ensures i)) (linkOctets (a .magic) (l .link-message-of .ensures i)) o)),
+      is-passed _ _ whole _ _ (b .if1 .left)
+          (w .write-link .ensures .1 ∙ (λ i. bufferOf (a .magic) (signaling (h .header-of .ensures i) (t .identity-at .ensures i)) (linkOctets (a .magic) (l .link-message-of .ensures i)) o)),
+    )
+
+pub write-link-spec : {M : Type 1} → statement M
+write-link-spec =
+    tie.close
+    (tie.spec
+    is-signaling-requires
+    returns
+    header-of-requires
+    identity-at-requires
+    link-message-of-requires
+    write-link-requires
+    same-length
+    returns-2)

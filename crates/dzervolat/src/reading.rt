@@ -1,0 +1,71 @@
+// Messages read from octets, and what they carry. Nothing lent to be read changes.
+ghost use mathlib.Core.Path.{_≡_};
+ghost use lib.ListN.{length};
+ghost use Rattle.refusal.specs.Refusal.{codeOf};
+ghost use Rattle.message.specs.Reading.{readOf};
+ghost use Rattle.message.specs.Parts.{tailIn, dataIn, lookupOf, suffixOf, linkOf};
+ghost use Rattle.origin.specs.Origin.{originCheck, originIn};
+ghost use Rattle.message_words.specs.Answers.{readCode, readWords, tailWords, tlvCode, tlvWords, suffixCode, suffixWords, linkCode, linkWords, originWords};
+
+// A message in twenty words, and where its tail begins and how long it is.
+#[no_mangle]
+pub extern "C" fn dz_read(
+    octets: &[u8],
+    magic: u16,
+    message: &mut [u64; 20],
+    tail: &mut [u64; 2],
+) -> u64
+    ensures answer { λ r. ⌜ r ≡ readCode (readOf magic (now (octets .entry))) ⌝ }
+    ensures words { λ _. ⌜ now (message .exit) ≡ readWords (readOf magic (now (octets .entry))) (now (message .entry)) ⌝ }
+    ensures rest { λ _. ⌜ now (tail .exit) ≡ tailWords (readOf magic (now (octets .entry))) (length (tailIn magic (now (octets .entry)))) (now (tail .entry)) ⌝ }
+{
+    let r = message::reading::read(octets, magic);
+    let t = message::parts::tail(octets, magic);
+    message_words::answers::put_tail(tail, r, t.len());
+    message_words::answers::put_read(message, r)
+}
+
+// The first TLV of a type: 1, where its data begin in the message and how many octets they are; or zeros.
+#[no_mangle]
+pub extern "C" fn dz_lookup(octets: &[u8], kind: u16, magic: u16, found: &mut [u64; 3]) -> u64
+    ensures answer { λ r. ⌜ r ≡ tlvCode (lookupOf magic kind (now (octets .entry))) ⌝ }
+    ensures words { λ _. ⌜ now (found .exit) ≡ tlvWords (lookupOf magic kind (now (octets .entry))) (length (dataIn magic kind (now (octets .entry)))) (now (found .entry)) ⌝ }
+{
+    let x = message::parts::looked_up(octets, kind, magic);
+    let d = message::parts::lookup(octets, kind, magic);
+    message_words::answers::put_tlv(found, x, d.len())
+}
+
+// The suffix of an Announce: 1 and wrFlags, or zeros.
+#[no_mangle]
+pub extern "C" fn dz_suffix(octets: &[u8], magic: u16, found: &mut [u64; 2]) -> u64
+    ensures answer { λ r. ⌜ r ≡ suffixCode (suffixOf magic (now (octets .entry))) ⌝ }
+    ensures words { λ _. ⌜ now (found .exit) ≡ suffixWords (suffixOf magic (now (octets .entry))) (now (found .entry)) ⌝ }
+{
+    message_words::answers::put_suffix(found, message::parts::suffix(octets, magic))
+}
+
+// The link message of a Signaling: 1 and its six words, or zeros.
+#[no_mangle]
+pub extern "C" fn dz_link_message(octets: &[u8], magic: u16, found: &mut [u64; 7]) -> u64
+    ensures answer { λ r. ⌜ r ≡ linkCode (linkOf magic (now (octets .entry))) ⌝ }
+    ensures words { λ _. ⌜ now (found .exit) ≡ linkWords (linkOf magic (now (octets .entry))) (now (found .entry)) ⌝ }
+{
+    message_words::answers::put_link(found, message::parts::link_message(octets, magic))
+}
+
+// The origin time of a Sync, from itself or from its Follow_Up: seconds and nanoseconds.
+#[no_mangle]
+pub extern "C" fn dz_origin<'a>(
+    sync: &'a [u8],
+    follow: &'a [u8],
+    magic: u16,
+    stamp: &mut [u64; 2],
+) -> u64
+    ensures answer { λ r. ⌜ r ≡ codeOf (originCheck magic (now (sync .entry)) (now (follow .entry))) ⌝ }
+    ensures words { λ _. ⌜ now (stamp .exit) ≡ originWords (originCheck magic (now (sync .entry)) (now (follow .entry))) (originIn magic (now (sync .entry)) (now (follow .entry))) (now (stamp .entry)) ⌝ }
+{
+    let x = origin::origin_says(sync, follow, magic);
+    let part = origin::origin(sync, follow, magic);
+    message_words::answers::put_origin(stamp, x, part)
+}

@@ -1,0 +1,32 @@
+-- `exchange_of` meets its contract: part by part.
+use borrow.Author.Needs.{needs}
+use Rattle.exchange_words.proofs.exchange_of.Statement.{statement}
+use Rattle.exchange_words.proofs.exchange_of.Tie as tie
+
+stamps-of-requires : tie.Need-stamps-of-requires
+stamps-of-requires c κs = search needs
+
+corrections-of-requires : tie.Need-corrections-of-requires
+corrections-of-requires c κs = search needs
+
+latencies-of-requires : tie.Need-latencies-of-requires
+latencies-of-requires c κs = search needs
+
+asymmetry-of-requires : tie.Need-asymmetry-of-requires
+asymmetry-of-requires c κs = search needs
+
+returns : tie.Need-returns
+returns c =
+    let l = c .before in
+    let k = l .before in
+    λ i. record { stamps = k .before .stamps-of .ensures i; corrections = k .corrections-of .ensures i; latencies = l .latencies-of .ensures i; asymmetry = c .asymmetry-of .ensures i }
+
+pub exchange-of-spec : {M : Type 1} → statement M
+exchange-of-spec =
+    tie.close
+    (tie.spec
+    stamps-of-requires
+    corrections-of-requires
+    latencies-of-requires
+    asymmetry-of-requires
+    returns)

@@ -1,0 +1,128 @@
+// What reading answers, put into words that are lent: the number returned is 0, or that of the refusal, and then the words
+// are as they were.
+ghost use mathlib.Core.Path.{_≡_};
+ghost use Rattle.refusal.specs.Refusal.{codeOf};
+ghost use Rattle.message_words.specs.Answers.{readCode, readWords, tailWords, tlvCode, tlvWords, suffixCode, suffixWords, linkMessageWords, linkCode, linkWords, originWords};
+use message::parts::LinkRead;
+use message::parts::SuffixRead;
+use message::parts::TlvRead;
+use message::reading::Reading;
+use refusal::Outcome;
+use tlv::wr::LinkMessage;
+
+// A message read.
+pub fn put_read(out: &mut [u64; 20], x: Reading) -> u64
+    ensures answer { λ r. ⌜ r ≡ readCode x ⌝ }
+    ensures words { λ _. ⌜ now (out .exit) ≡ readWords x (now (out .entry)) ⌝ }
+{
+    match x {
+        Reading::Refused(y) => refusal::number(y),
+        Reading::Whole(m) => {
+            *out = crate::message_words(m);
+            0
+        }
+    }
+}
+
+// Where the tail of a message that was read begins, and how many octets it has.
+pub fn put_tail(out: &mut [u64; 2], x: Reading, length: usize)
+    ensures { λ _. ⌜ now (out .exit) ≡ tailWords x length (now (out .entry)) ⌝ }
+{
+    match x {
+        Reading::Refused(_) => {}
+        Reading::Whole(m) => {
+            let b = m.body;
+            let size = message::fields::fixed_size(layout::kind_of(b));
+            *out = [size as u64, length as u64];
+        }
+    }
+}
+
+// A TLV looked up: 1, where its data begin in the message and how many octets they are, or zeros.
+pub fn put_tlv(out: &mut [u64; 3], x: TlvRead, length: usize) -> u64
+    ensures answer { λ r. ⌜ r ≡ tlvCode x ⌝ }
+    ensures words { λ _. ⌜ now (out .exit) ≡ tlvWords x length (now (out .entry)) ⌝ }
+{
+    match x {
+        TlvRead::Refused(y) => refusal::number(y),
+        TlvRead::Absent => {
+            *out = [0; 3];
+            0
+        }
+        TlvRead::Found(at) => {
+            *out = [1, at as u64, length as u64];
+            0
+        }
+    }
+}
+
+// The suffix of an Announce: 1 and wrFlags, or zeros.
+pub fn put_suffix(out: &mut [u64; 2], x: SuffixRead) -> u64
+    ensures answer { λ r. ⌜ r ≡ suffixCode x ⌝ }
+    ensures words { λ _. ⌜ now (out .exit) ≡ suffixWords x (now (out .entry)) ⌝ }
+{
+    match x {
+        SuffixRead::Refused(y) => refusal::number(y),
+        SuffixRead::Absent => {
+            *out = [0; 2];
+            0
+        }
+        SuffixRead::Flags(flags) => {
+            *out = [1, flags as u64];
+            0
+        }
+    }
+}
+
+// A link message in six words: its number, pattern, retry, period, deltaTx, deltaRx; zeros for those it does not carry.
+pub fn link_message_words(m: LinkMessage) -> [u64; 6]
+    ensures { λ r. ⌜ r ≡ linkMessageWords m ⌝ }
+{
+    match m {
+        LinkMessage::SlavePresent => [0x1000, 0, 0, 0, 0, 0],
+        LinkMessage::Lock => [0x1001, 0, 0, 0, 0, 0],
+        LinkMessage::Locked => [0x1002, 0, 0, 0, 0, 0],
+        LinkMessage::Calibrate {
+            pattern,
+            retry,
+            period,
+        } => [0x1003, pattern as u64, retry as u64, period as u64, 0, 0],
+        LinkMessage::Calibrated { tx, rx } => [0x1004, 0, 0, 0, tx, rx],
+        LinkMessage::ModeOn => [0x1005, 0, 0, 0, 0, 0],
+    }
+}
+
+// The link message of a Signaling: 1 and its six words, or zeros.
+pub fn put_link(out: &mut [u64; 7], x: LinkRead) -> u64
+    ensures answer { λ r. ⌜ r ≡ linkCode x ⌝ }
+    ensures words { λ _. ⌜ now (out .exit) ≡ linkWords x (now (out .entry)) ⌝ }
+{
+    match x {
+        LinkRead::Refused(y) => refusal::number(y),
+        LinkRead::Absent => {
+            *out = [0; 7];
+            0
+        }
+        LinkRead::Message(m) => {
+            let w = link_message_words(m);
+            *out = [1, w[0], w[1], w[2], w[3], w[4], w[5]];
+            0
+        }
+    }
+}
+
+// An origin time: the seconds and the nanoseconds of its ten octets.
+pub fn put_origin(out: &mut [u64; 2], x: Outcome, stamp: &[u8]) -> u64
+    ensures answer { λ r. ⌜ r ≡ codeOf x ⌝ }
+    ensures words { λ _. ⌜ now (out .exit) ≡ originWords x (now (stamp .entry)) (now (out .entry)) ⌝ }
+{
+    match x {
+        Outcome::Refused(y) => refusal::number(y),
+        Outcome::Done => {
+            let seconds = octets::u48_at(stamp, 0);
+            let nanoseconds = octets::u32_at(stamp, 6);
+            *out = [seconds, nanoseconds as u64];
+            0
+        }
+    }
+}

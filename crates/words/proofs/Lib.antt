@@ -1,0 +1,5 @@
+pub mod Spread
+pub mod Widen
+pub mod Laws
+pub mod Fixes
+pub mod Determined
