@@ -1,21 +1,6 @@
 /* Data sets compared, candidates ranked, ports decided. */
 #include "speak.h"
 
-static const struct field set_fields[] = {
-    {U8, DZ_C_PRIORITY1},
-    {U8, DZ_C_CLASS},
-    {U8, DZ_C_ACCURACY},
-    {U16, DZ_C_VARIANCE},
-    {U8, DZ_C_PRIORITY2},
-    {CLOCK, DZ_C_GRANDMASTER},
-    {U16, DZ_C_STEPS},
-    {CLOCK, DZ_C_SENDER_CLOCK},
-    {U16, DZ_C_SENDER_PORT},
-    {CLOCK, DZ_S_RECEIVER_CLOCK},
-    {U16, DZ_S_RECEIVER_PORT},
-    {.kind = END},
-};
-
 /* A ranked list to be lent: its count as the line has it, so that the library sees one above four, and as many candidates as a list has. Those
    past them must be well formed, and nobody looks at them. */
 static void take_list(struct line *line, uint64_t list[DZ_LIST_WORDS])

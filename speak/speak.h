@@ -66,7 +66,7 @@ bool line_is_whole(const struct line *line);
 
 /* ---- Which numbers make up what (fields.c) -------------------------------------------------------------------------------------- */
 
-extern const struct field header_fields[], candidate_fields[];
+extern const struct field header_fields[], candidate_fields[], set_fields[];
 const struct field *body_fields(uint64_t type);
 const struct field *link_message_fields(uint64_t number);
 

@@ -133,6 +133,24 @@ static void may(enum box b, size_t n)
     changeable[b] = octets(b) + n * 8;
 }
 
+/* All answers together, so that one line tells whether two processors have given the same. */
+static uint64_t digest;
+
+static void digest_octets(const uint8_t *o, size_t n)
+{
+    for (uint64_t w = 0; n > 0; o += n < 8 ? n : 8, n -= n < 8 ? n : 8) {
+        memcpy(&w, o, n < 8 ? n : 8);
+        digest = (digest ^ w) * 0x9E3779B97F4A7C15;
+        digest ^= digest >> 29;
+    }
+}
+
+static void digest_answer(dz_answer answer)
+{
+    digest_octets((const uint8_t *)&answer, sizeof answer);
+    for (int b = 0; b < BOXES && answer == DZ_OK; b++) digest_octets(octets(b), (size_t)(changeable[b] - octets(b)));
+}
+
 /* A call has returned: its number is one that it can give, and what it has changed is what it may change. */
 static dz_answer end(dz_answer answer, uint32_t given)
 {
@@ -146,6 +164,7 @@ static dz_answer end(dz_answer answer, uint32_t given)
         now = b == BOXES ? stop : answer ? to : changeable[b];
         expect(!memcmp(at, (const uint8_t *)before + (at - (const uint8_t *)memory), (size_t)(to - at)), answer ? "a refusal has changed what was lent" : "more has changed than may");
     }
+    digest_answer(answer);
     return answer;
 }
 
@@ -1129,7 +1148,7 @@ int main(int count, char **arguments)
         if (turn % 2000 == 0) begin_history(turn / 2000);
         tries[below(sizeof tries / sizeof *tries)]();
     }
-    printf("%" PRIu64 " calls, of refusals 1 to 18:", calls);
+    printf("%" PRIu64 " calls, their answers %016" PRIx64 ", of refusals 1 to 18:", calls, digest);
     for (int i = 1; i <= DZ_REFUSED_FIELD; i++) printf(" %" PRIu64, answers[i]);
     printf("\n");
     calling = "all calls";

@@ -1,0 +1,27 @@
+# The engine for those who build C. `make` proves it and writes the library, target/lib/CPU/libdzervolat.a; the rest is below.
+CPU ?= $(shell uname -m)
+PREFIX ?= /usr/local
+VERSION := $(shell sed -n 's/^.define DZ_VERSION //p' include/dzervolat.h)
+
+.PHONY: library install check bench day
+library:
+	tests/library $(CPU)
+
+# header, library and pkg-config file, below PREFIX (and DESTDIR, for packages)
+install: library
+	install -d '$(DESTDIR)$(PREFIX)/include' '$(DESTDIR)$(PREFIX)/lib/pkgconfig'
+	install -m 644 include/dzervolat.h '$(DESTDIR)$(PREFIX)/include/'
+	install -m 644 'target/lib/$(CPU)/libdzervolat.a' '$(DESTDIR)$(PREFIX)/lib/'
+	sed -e 's|@PREFIX@|$(PREFIX)|' -e 's|@VERSION@|$(VERSION)|' include/dzervolat.pc.in >'$(DESTDIR)$(PREFIX)/lib/pkgconfig/dzervolat.pc'
+
+# the whole gate
+check:
+	.ci/run
+
+# instructions of each call, beside C by hand
+bench:
+	bench/run
+
+# a day on eighteen ports
+day:
+	examples/day
