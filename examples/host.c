@@ -149,7 +149,7 @@ static void reading(void)
 static void show_link(const char *what, const uint64_t step[DZ_STEP_WORDS])
 {
     printf("%s: %s as %s, retries %" PRIu64, what, dz_state_text(step[DZ_T_STATE]), step[DZ_T_ROLE] == DZ_ROLE_SLAVE ? "slave" : "master", step[DZ_T_RETRIES]);
-    if (step[DZ_T_SENDS]) printf(", sends %" PRIx64, step[DZ_T_FIRST + DZ_L_NUMBER]);
+    if (step[DZ_T_SENDS]) printf(", sends %s", dz_link_number_text(step[DZ_T_FIRST + DZ_L_NUMBER]));
     printf("\n");
 }
 

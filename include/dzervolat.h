@@ -1,8 +1,9 @@
 /* Dzervolat: the engine of an 18-port White Rabbit / PTP boundary clock, as a host written in C calls it.
 
-   The ten lines that a host needs (octets, length, port, now and own are the host's; so are steer and follow):
+   The ten lines that a host needs (the message, its port and time, our own clock, domain and magic are the host's; so are steer and follow):
 
        static uint64_t ports[DZ_PORTS_WORDS];                            // zeroed: a fresh clock, eighteen ports that heard nothing
+       const uint64_t own[DZ_OWN_WORDS] = DZ_OWN_DEFAULT(clock);         // what we are worth without a better source
        uint64_t list[DZ_LIST_WORDS], parent[DZ_FOUND_WORDS];
        uint8_t decisions[DZ_PORTS];
        dz_take(ports, port, now, octets, length, domain, clock, magic);  // each Announce, as it arrives on a port
@@ -24,8 +25,9 @@
      lists needs a copy of it. What it does not change may overlap as it likes: dz_merge(a, a, out) is fine.
    - No number is cut. A word that its field cannot hold (the comments give the widths) is refused: a port that is none of 1 to 18 with
      DZ_REFUSED_PORT, a number of an exchange with DZ_REFUSED_RANGE, any other with DZ_REFUSED_FIELD, after the refusals that the call itself
-     names; a port in a ranked list belongs to what makes it one (DZ_REFUSED_UNRANKED). Arguments other than ports have the C type of
-     their field, and what C's own conversion makes of a wider number is all that arrives (-Wconversion tells).
+     names. Whether a list is a ranked one is judged by what its fields would hold, and by its ports as they are (DZ_REFUSED_UNRANKED).
+     Arguments other than ports have the C type of their field, and what C's own conversion makes of a wider number is all that arrives
+     (-Wconversion tells).
    - Signed numbers in words are their two's complement: (uint64_t)(int64_t)x, and back by (int64_t)w.
 
    At the same time: calls to which the same state is lent as const may run together. A call that may change it runs alone on that state. Calls on
@@ -168,7 +170,7 @@ enum dz_found_words { DZ_FOUND_DATA_WORDS = 3, DZ_FOUND_WRFLAGS_WORDS = 2, DZ_FO
 /* A timestamp. */
 enum dz_stamp { DZ_STAMP_SECONDS = 0, DZ_STAMP_NANOS = 1, DZ_STAMP_WORDS = 2 };
 
-/* A link message of White Rabbit is six words; those it does not carry are 0. */
+/* A link message of White Rabbit is six words; those it does not carry are 0 when a call gives them, and not looked at when a call is given them. */
 enum dz_link_message {
     DZ_L_NUMBER = 0,  /* enum dz_link_number */
     DZ_L_PATTERN = 1, /* CALIBRATE: 8 bits */
@@ -187,6 +189,19 @@ enum dz_link_number {
     DZ_LINK_CALIBRATED = 0x1004,
     DZ_LINK_WR_MODE_ON = 0x1005
 };
+
+static inline const char *dz_link_number_text(uint64_t number)
+{
+    switch (number) {
+    case DZ_LINK_SLAVE_PRESENT: return "SLAVE_PRESENT";
+    case DZ_LINK_LOCK: return "LOCK";
+    case DZ_LINK_LOCKED: return "LOCKED";
+    case DZ_LINK_CALIBRATE: return "CALIBRATE";
+    case DZ_LINK_CALIBRATED: return "CALIBRATED";
+    case DZ_LINK_WR_MODE_ON: return "WR_MODE_ON";
+    default: return "?";
+    }
+}
 
 /* ---- Reading ------------------------------------------------------------------------------------------------------------------- */
 
@@ -247,7 +262,7 @@ enum dz_record {
     DZ_R_SENDER_CLOCK = 1,
     DZ_R_SENDER_PORT = 2,
     DZ_R_SEQUENCE = 3,
-    DZ_R_RECEIPTS = 4,    /* 1 or 2 */
+    DZ_R_RECEIPTS = 4,    /* 1 or 2, in state that grew from zeros */
     DZ_R_NEWEST = 5,      /* nanoseconds */
     DZ_R_OLDER = 6,       /* 0 where there is one receipt */
     DZ_R_PRIORITY1 = 7,
@@ -344,7 +359,7 @@ dz_answer dz_rank(const uint64_t *run, size_t candidates, uint64_t list[DZ_LIST_
 dz_answer dz_merge(const uint64_t a[DZ_LIST_WORDS], const uint64_t b[DZ_LIST_WORDS], uint64_t list[DZ_LIST_WORDS]);
 
 /* What a port is to do (*decision is of enum dz_decision): by our own quality, the ranked list of all ports, and the port's best as dz_best
-   gives it; the port in that best is not looked at. Refuses 8, then 15, then 18 where a word does not fit. */
+   gives it: with a first word of 0 there is none, and the rest is not looked at; the port in it never is. Refuses 8, then 15, then 18 where a word does not fit. */
 dz_answer dz_decide(const uint64_t own[DZ_OWN_WORDS], const uint64_t list[DZ_LIST_WORDS], uint64_t port, const uint64_t best[DZ_FOUND_WORDS], uint64_t *decision);
 
 /* Every port's decision at a time in one call: decisions[p - 1] is that of port p (enum dz_decision), `list` the ranked list of all that
@@ -411,7 +426,8 @@ static inline const char *dz_state_text(uint64_t state)
 dz_answer dz_link_set(uint64_t links[DZ_LINKS_WORDS], uint64_t port, uint8_t config, uint8_t calibrate, uint8_t retry, uint32_t period, uint64_t tx, uint64_t rx);
 
 /* Events of a port's link: a start with the parent's config and mode (any number but 0 is on), a link message by its number, the hardware is
-   done, a timeout, a stop. What no rule names is ignored and changes nothing. Each refuses 8. */
+   done, a timeout, a stop. What no rule names is ignored and changes nothing in links that grew from zeros (in other words, bits that no link has are
+   cleared). Each refuses 8. */
 dz_answer dz_link_start(uint64_t links[DZ_LINKS_WORDS], uint64_t port, uint8_t config, uint8_t mode, uint64_t step[DZ_STEP_WORDS]);
 dz_answer dz_link_take(uint64_t links[DZ_LINKS_WORDS], uint64_t port, uint16_t number, uint64_t step[DZ_STEP_WORDS]);
 dz_answer dz_link_done(uint64_t links[DZ_LINKS_WORDS], uint64_t port, uint64_t step[DZ_STEP_WORDS]);

@@ -376,7 +376,7 @@ def faults_of_places(header, title, table, count, unpacks):
 def faults_of_numbers(header, title, table):
     known = definition_of(title)
     numbers = {bare(patterns[0][0]): int(right[1], 0) for patterns, right in known.equations}
-    for case in numbers.keys() | table.keys():
+    for case in sorted(numbers.keys() | table.keys()):
         name = table.get(case)
         if name is None or case not in numbers or header.value(name) != numbers[case]:
             yield f"{name} is {header.value(name) if name else 'not there'}, but {title} has {case} as {numbers.get(case)}"
