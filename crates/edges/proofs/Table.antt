@@ -6,12 +6,12 @@ use Rattle.tlv.specs.Walk.{nextOf, walkBy, walk}
 use Rattle.tlv.specs.Form.{HasForm, numbered, suffixAt}
 use Rattle.tlv.specs.Faults.{tailCheck}
 use Rattle.tlv.specs.Wr.{suffixIn}
-use Rattle.senders.specs.Port.{planOf, first}
+use Rattle.senders.specs.Port.{tab, planOf, first}
 use Rattle.decide.specs.Comparing.{fewerOf, sameOf, compareOf}
 use Rattle.delay.specs.Delay.{t1, t2, t3, t4, share, delay, offset}
 use Rattle.delay.specs.Range.{stampGood, stampsGood, correctionsGood, latenciesGood, differencesGood, inputsGood, inRange}
 use Rattle.edges.specs.Edges.{All, table}
 
 pub edges : All table
-unfolding be suffixIn suffixAt numbered HasForm nextOf walkBy walk tailCheck refuse planOf first compareOf sameOf fewerOf t1 t2 t3 t4 share delay offset stampGood stampsGood correctionsGood latenciesGood differencesGood inputsGood inRange
+unfolding be suffixIn suffixAt numbered HasForm nextOf walkBy walk tailCheck refuse tab planOf first compareOf sameOf fewerOf t1 t2 t3 t4 share delay offset stampGood stampsGood correctionsGood latenciesGood differencesGood inputsGood inRange
 edges = (refl, (refl, (refl, (refl, (refl, (refl, (refl, (refl, (refl, (refl, (refl, (refl, tt))))))))))))

@@ -4,6 +4,7 @@ use mathlib.Core.Path.{_≡_}
 use mathlib.Core.List.{List, [], _∷_}
 use mathlib.Core.Bool.{true, false}
 use lib.IntN.{ℤ, pos, negsuc}
+use lib.ListN.{getD}
 use Rattle.refusal.specs.declared.Refusal.the-variants.{Tlv, Stale}
 use Rattle.refusal.specs.declared.Outcome.{Outcome}
 use Rattle.refusal.specs.declared.Outcome.the-variants.{Done, Refused}
@@ -11,12 +12,12 @@ use Rattle.tlv.specs.Faults.{tailCheck}
 use Rattle.tlv.specs.Wr.{suffixIn}
 use Rattle.tlv.specs.declared.wr.Suffix.{Suffix}
 use Rattle.tlv.specs.declared.wr.Suffix.the-variants.{Flags}
-use Rattle.rank.specs.Ranked.{rankOf}
+use Rattle.rank.specs.Calls.{rankingOf, doneOf}
 use Rattle.rank.specs.declared.Candidate.{Candidate}
 use Rattle.senders.specs.declared.Notice.{Notice}
 use Rattle.senders.specs.declared.Record.{Record}
 use Rattle.senders.specs.Record.{windowOf, isLive, isQualified}
-use Rattle.senders.specs.Port.{Port, emptySlot, planOf, outcomeOf}
+use Rattle.senders.specs.Port.{Port, emptySlot, tab, planOf, portAfter, outcomeOf}
 use Rattle.decide.specs.Comparing.{compareOf}
 use Rattle.decide.specs.declared.DataSet.{DataSet}
 use Rattle.decide.specs.declared.Comparison.{Comparison}
@@ -48,9 +49,13 @@ announced n =
       wrflags = 0;
     }
 
--- "receipts at 0 and 10^9"
+-- "receipts at 0 and 10^9": what a fresh port keeps of a sender whose Announces it took at these times
+abbrev pub taking : Port → ℕ → Notice → Port
+taking p t a = portAfter p t (planOf p t a)
+
 abbrev pub heardTwice : Record
-heardTwice = record { notice = announced 0; receipts = 2; newest = 10 ^ 9; older = 0 }
+heardTwice =
+    getD (taking (taking (record { last = 0; e = 0; slots = tab 16 (λ i. emptySlot) }) 0 (announced 0)) (10 ^ 9) (announced 1) .slots) 0 emptySlot
 
 -- "interval 1 s": k = 0
 abbrev pub window : ℕ
@@ -108,7 +113,7 @@ table =
     ∷ row (compareOf (away 65535) (away 0)) BBetter  -- (9)
     ∷ row (measureOf (leaning 10 0)) (measured (pos 5) 5)  -- (10): the offset is t2 less the delay
     ∷ row (measureOf (leaning 0 1)) (measured (negsuc 0) 1)  -- (11)
-    ∷ row (rankOf none) none  -- (12)
+    ∷ row (rankingOf none) (doneOf none)  -- (12)
     ∷ []
 
 -- every row of a table holds

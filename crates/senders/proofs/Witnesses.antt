@@ -8,7 +8,8 @@ use Rattle.refusal.specs.declared.Refusal.the-variants.{Backward, Stale, Full}
 use Rattle.senders.specs.declared.Notice.{Notice}
 use Rattle.senders.specs.declared.Plan.the-variants.{Refuse, Put}
 use Rattle.senders.specs.Record.{windowOf, freshOf, nextOf}
-use Rattle.senders.specs.Port.{Port, emptySlot, tab, first, planOf, portAfter}
+use Rattle.rank.specs.declared.Candidate.{Candidate}
+use Rattle.senders.specs.Port.{Port, emptySlot, tab, first, kept, planOf, portAfter, candidatesOf}
 
 -- a sender's Announce, by its clock and number
 abbrev from : ℕ → ℕ → Notice
@@ -69,3 +70,50 @@ pub other-port : planOf (portAfter new 0 (Put 0 (freshOf 0 (from 7 9)))) 0 (reco
     ≡ Put 1 (freshOf 0 (record { sender = record { clock = 7; port = 2 }; sequence = 9; grandmaster = emptySlot .notice .grandmaster; steps = 0; wrflags = 0 }))
 unfolding planOf first tab refuse
 other-port = refl
+
+-- ---- what a history makes a candidate of: an Announce whose numbers are all different, heard once, twice and three times
+abbrev heard : ℕ → Notice
+heard n =
+    record {
+      sender = record { clock = 11; port = 12 };
+      sequence = n;
+      grandmaster = record { priority1 = 1; class = 2; accuracy = 3; variance = 4; priority2 = 5; identity = 6 };
+      steps = 7;
+      wrflags = 8;
+    }
+
+abbrev taking : Port → ℕ → Notice → Port
+taking p t a = portAfter p t (planOf p t a)
+
+abbrev once : Port
+once = taking new 0 (heard 20)
+
+abbrev twice : Port
+twice = taking once 1000000000 (heard 21)
+
+abbrev thrice : Port
+thrice = taking twice 2000000000 (heard 22)
+
+-- the ten keys, on port 9
+abbrev keys : Candidate
+keys =
+    record {
+      grandmaster = record { priority1 = 1; class = 2; accuracy = 3; variance = 4; priority2 = 5; identity = 6 };
+      steps = 7;
+      sender = record { clock = 11; port = 12 };
+      port = 9;
+      wrflags = 8;
+    }
+
+-- one receipt is no candidate; two are, while the older lies within four seconds; a third shifts them
+pub record Qualified : Type 0 where
+  pub one : candidatesOf 9 once 0 ≡ []
+  pub two : candidatesOf 9 twice 1000000000 ≡ keys ∷ []
+  pub last : candidatesOf 9 twice 4000000000 ≡ keys ∷ []
+  pub late : candidatesOf 9 twice 4000000001 ≡ []
+  pub shifted : candidatesOf 9 thrice 5000000000 ≡ keys ∷ []
+  pub shifted-late : candidatesOf 9 thrice 5000000001 ≡ []
+
+pub qualified : Qualified
+unfolding planOf first tab refuse candidatesOf kept
+qualified = record { one = refl; two = refl; last = refl; late = refl; shifted = refl; shifted-late = refl }
