@@ -9,6 +9,7 @@ use Rattle.octets.specs.Be.{be}
 use Rattle.refusal.specs.Choice.{refuse}
 use Rattle.refusal.specs.declared.Refusal.the-variants.{Short, Port, Domain, Own, Backward, Stale}
 use Rattle.tlv.specs.Walk as walk
+use Rattle.tlv.specs.Form.{HasForm, numbered, misfitAt, dataOctets, suffixAt}
 use Rattle.tlv.specs.Faults.{tailCheck}
 use Rattle.tlv.specs.Wr.{suffixIn}
 use Rattle.message.specs.Fields.{fixedSize, headerOf, announceOf, identityAt, stampOf}
@@ -42,6 +43,17 @@ notice clock port sequence =
 heard : admittedOf ours 2 (announce 0 7 1 9) ≡ Notice (notice 7 1 9)
 unfolding admittedOf refuse announcedOf checkOf tailCheck fixedSize be headerOf announceOf identityAt stampOf suffixIn walk.walk walk.walkBy
 heard = refl
+
+-- an Announce with the suffix in which all that is kept differs: each number comes from its own octets
+abbrev told : List ℕ
+told =
+    0x0B ∷ 2 ∷ 0 ∷ 0x4E ∷ 0 ∷ 0x55 ∷ 0x66 ∷ 0x77 ∷ 0x81 ∷ 0x82 ∷ 0x83 ∷ 0x84 ∷ 0x85 ∷ 0x86 ∷ 0x87 ∷ 0x88 ∷ 0x91 ∷ 0x92 ∷ 0x93 ∷ 0x94 ∷ 0x11 ∷ 0x12 ∷ 0x13 ∷ 0x14 ∷ 0x15 ∷ 0x16 ∷ 0x17 ∷ 0x18 ∷ 0x19 ∷ 0x1A ∷ 0x1B ∷ 0x1C ∷ 0x1D ∷ 0x1E ∷ 0x21 ∷ 0x22 ∷ 0x23 ∷ 0x24 ∷ 0x25 ∷ 0x26
+    ∷ 1 ∷ 2 ∷ 3 ∷ 4 ∷ 0x2B ∷ 0x2C ∷ 0x2D ∷ 0x2F ∷ 0x30 ∷ 0x31 ∷ 0x32 ∷ 0x33 ∷ 0x34 ∷ 0x35 ∷ 0x36 ∷ 0x37 ∷ 0x38 ∷ 0x39 ∷ 0x3A ∷ 0x3B ∷ 0x3C ∷ 0x3D ∷ 0x3E ∷ 0x3F ∷ 0 ∷ 3 ∷ 0 ∷ 0x0A ∷ 8 ∷ 0 ∷ 0x30 ∷ 0xAB ∷ 0xCD ∷ 1 ∷ 0x20 ∷ 0 ∷ 0 ∷ 7 ∷ []
+
+pub each-its-own : admittedOf ours 2 told
+    ≡ Notice (record { sender = record { clock = 0x1112131415161718; port = 0x191A }; sequence = 0x1B1C; grandmaster = record { priority1 = 0x2F; class = 0x30; accuracy = 0x31; variance = 0x3233; priority2 = 0x34; identity = 0x35363738393A3B3C }; steps = 0x3D3E; wrflags = 7 })
+unfolding admittedOf refuse announcedOf checkOf tailCheck fixedSize be headerOf announceOf identityAt stampOf suffixIn suffixAt numbered HasForm misfitAt dataOctets walk.nextOf walk.walk walk.walkBy
+each-its-own = refl
 
 -- refused before the records are looked at, in the order of the checks
 pub no-port : admittedOf ours 19 [] ≡ Refused Port
