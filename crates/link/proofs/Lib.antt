@@ -2,3 +2,4 @@ pub mod StepLaws
 pub mod RunLaws
 pub mod Conversation
 pub mod Determined
+pub mod Witnesses
