@@ -23,8 +23,10 @@ use Rattle.candidate_words.proofs.candidates.ranked_words.Reads as rank
 use Rattle.candidate_words.proofs.candidates.ranked_words.Kinds as ranked-words-kinds
 use Rattle.candidate_words.proofs.answers.comparison_number.Reads as comparison-number
 use Rattle.candidate_words.proofs.answers.comparison_number.Kinds as comparison-number-kinds
-use Rattle.candidate_words.proofs.runs.rank_run.Reads as rank-run
-use Rattle.candidate_words.proofs.runs.rank_run.Kinds as rank-run-kinds
+use Rattle.candidate_words.proofs.places.rank_run.Reads as rank-run
+use Rattle.candidate_words.proofs.places.rank_run.Kinds as rank-run-kinds
+use Rattle.candidate_words.proofs.places.merge_lists.Reads as merge-lists
+use Rattle.candidate_words.proofs.places.merge_lists.Kinds as merge-lists-kinds
 use Rattle.candidate_words.proofs.fits.grandmaster_fits.Reads as grandmaster-fits
 use Rattle.candidate_words.proofs.fits.grandmaster_fits.Kinds as grandmaster-fits-kinds
 use Rattle.candidate_words.proofs.fits.list_fits.Reads as list-fits
@@ -33,8 +35,8 @@ use Rattle.candidate_words.proofs.fits.set_fits.Reads as set-fits
 use Rattle.candidate_words.proofs.fits.set_fits.Kinds as set-fits-kinds
 use Rattle.candidate_words.proofs.fits.best_fits.Reads as best-fits
 use Rattle.candidate_words.proofs.fits.best_fits.Kinds as best-fits-kinds
-use Rattle.candidate_words.proofs.fits.run_fits.Reads as run-fits
-use Rattle.candidate_words.proofs.fits.run_fits.Kinds as run-fits-kinds
+use Rattle.candidate_words.proofs.fits.one_fits.Reads as one-fits
+use Rattle.candidate_words.proofs.fits.one_fits.Kinds as one-fits-kinds
 use Rattle.candidate_words.proofs.fits.ranking_fitted.Reads as ranking-fitted
 use Rattle.candidate_words.proofs.fits.ranking_fitted.Kinds as ranking-fitted-kinds
 use Rattle.candidate_words.proofs.fits.answer_fitted.Reads as answer-fitted
@@ -81,9 +83,6 @@ ranked-words-determined κs a x y e f p q = p ∙ sym q
 pub comparison-number-determined : Fixes comparison-number-kinds.ps comparison-number-kinds.r comparison-number.Post
 comparison-number-determined κs a x y e f p q = p ∙ sym q
 
-pub rank-run-determined : Fixes rank-run-kinds.ps rank-run-kinds.r rank-run.Post
-rank-run-determined κs a x y e f p q = p ∙ sym q
-
 pub grandmaster-fits-determined : Fixes grandmaster-fits-kinds.ps grandmaster-fits-kinds.r grandmaster-fits.Post
 grandmaster-fits-determined κs a x y e f p q = p ∙ sym q
 
@@ -96,8 +95,8 @@ set-fits-determined κs a x y e f p q = p ∙ sym q
 pub best-fits-determined : Fixes best-fits-kinds.ps best-fits-kinds.r best-fits.Post
 best-fits-determined κs a x y e f p q = p ∙ sym q
 
-pub run-fits-determined : Fixes run-fits-kinds.ps run-fits-kinds.r run-fits.Post
-run-fits-determined κs a x y e f p q = p ∙ sym q
+pub one-fits-determined : Fixes one-fits-kinds.ps one-fits-kinds.r one-fits.Post
+one-fits-determined κs a x y e f p q = p ∙ sym q
 
 pub ranking-fitted-determined : Fixes ranking-fitted-kinds.ps ranking-fitted-kinds.r ranking-fitted.Post
 ranking-fitted-determined κs a x y e f p q = p ∙ sym q
@@ -131,3 +130,11 @@ module _ (κs : Lfts 1) (a : Dens κs put-decided-kinds.ps) (x y : resT put-deci
 module _ (κs : Lfts 1) (a : Dens κs put-leader-kinds.ps) (x y : resT put-leader-kinds.r κs .Denot) (e f : AtExit (endedOf 1 put-leader-kinds.ps put-leader-kinds.r) κs) where
   pub put-leader-determined : put-leader.Post κs a x e → put-leader.Post κs a y f → (x ≡ y) × (now (e .0) ≡ now (f .0))
   put-leader-determined p q = (p .0 ∙ sym (q .0), p .1 ∙ sym (q .1))
+
+module _ (κs : Lfts 2) (a : Dens κs rank-run-kinds.ps) (x y : resT rank-run-kinds.r κs .Denot) (e f : AtExit (endedOf 2 rank-run-kinds.ps rank-run-kinds.r) κs) where
+  pub rank-run-determined : rank-run.Post κs a x e → rank-run.Post κs a y f → (x ≡ y) × (now (e .1 .0) ≡ now (f .1 .0))
+  rank-run-determined p q = (p .0 ∙ sym (q .0), p .1 ∙ sym (q .1))
+
+module _ (κs : Lfts 3) (a : Dens κs merge-lists-kinds.ps) (x y : resT merge-lists-kinds.r κs .Denot) (e f : AtExit (endedOf 3 merge-lists-kinds.ps merge-lists-kinds.r) κs) where
+  pub merge-lists-determined : merge-lists.Post κs a x e → merge-lists.Post κs a y f → (x ≡ y) × (now (e .1 .1 .0) ≡ now (f .1 .1 .0))
+  merge-lists-determined p q = (p .0 ∙ sym (q .0), p .1 ∙ sym (q .1))

@@ -15,6 +15,7 @@ use Rattle.rank.proofs.Merging.{both}
 use Rattle.decide.specs.declared.Erbest.the-variants.{Present}
 use Rattle.candidate_words.specs.Fits.{candidateFits}
 use Rattle.candidate_words.specs.Candidates.{candidateAt, candidateWords, rankedOf, rankedWords, foundWords, bestOf}
+use Rattle.candidate_words.specs.Places.{wordsAt}
 
 -- a candidate as its types hold it
 pub record Fits (c : Candidate) : Type 0 where
@@ -67,22 +68,6 @@ list-kept n a b c d p q r s =
 -- what asking gives is what deciding takes
 pub best-kept : (c : Candidate) → Fits c → bestOf (foundWords c) ≡ Present c
 best-kept c h = ap Present (candidate-kept c h)
-
--- the eleven words from b on, as they stand
-abbrev pub wordsAt : List ℕ → ℕ → List ℕ
-wordsAt w b =
-    getD w b 0
-    ∷ getD w (b + 1) 0
-    ∷ getD w (b + 2) 0
-    ∷ getD w (b + 3) 0
-    ∷ getD w (b + 4) 0
-    ∷ getD w (b + 5) 0
-    ∷ getD w (b + 6) 0
-    ∷ getD w (b + 7) 0
-    ∷ getD w (b + 8) 0
-    ∷ getD w (b + 9) 0
-    ∷ getD w (b + 10) 0
-    ∷ []
 
 -- numbers below their limits, and tests of that
 octet-by : (n : ℕ) → ltb n 256 ≡ true → n % 256 ≡ n

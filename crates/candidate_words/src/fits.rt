@@ -3,7 +3,7 @@
 ghost use mathlib.Core.Path.{_≡_};
 ghost use Prim.Native.Nat.{_+_, _*_, _≤_, _<_};
 ghost use lib.ListN.{length};
-ghost use Rattle.candidate_words.specs.Fits.{grandmasterFits, candidateFits, slotFits, listFits, setFits, bestFits, runFits, outcomeFitted, rankingFitted, answerFitted, leaderFitted};
+ghost use Rattle.candidate_words.specs.Fits.{grandmasterFits, candidateFits, slotFits, listFits, setFits, bestFits, outcomeFitted, rankingFitted, answerFitted, leaderFitted};
 use decide::Answer;
 use election::Leader;
 use rank::Ranking;
@@ -28,7 +28,7 @@ fn candidate_fits(w: &[u64], b: usize) -> bool
 }
 
 // The eleven words of a candidate.
-fn one_fits(w: &[u64; 11]) -> bool
+pub fn one_fits(w: &[u64; 11]) -> bool
     ensures { λ r. ⌜ r ≡ candidateFits (now (w .entry)) 0 ⌝ }
 {
     candidate_fits(w, 0)
@@ -68,21 +68,6 @@ pub fn best_fits(w: &[u64; 12]) -> bool
 {
     let fits = candidate_fits(w, 1);
     (w[0] == 0) | fits
-}
-
-// A run of candidates.
-pub fn run_fits(run: &[[u64; 11]]) -> bool
-    ensures { λ r. ⌜ r ≡ runFits (now (run .entry)) ⌝ }
-{
-    let mut i: usize = 0;
-    while i < run.len() {
-        let w = run[i];
-        if !one_fits(&w) {
-            return false;
-        }
-        i += 1;
-    }
-    true
 }
 
 // What a call answers whose words may not fit: 18 where they do not, unless the call itself refuses.

@@ -6,4 +6,4 @@
 pub mod answers;
 pub mod candidates;
 pub mod fits;
-pub mod runs;
+pub mod places;

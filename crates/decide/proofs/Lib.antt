@@ -1,5 +1,6 @@
 pub mod Agreement
 pub mod Symmetry
+pub mod ByLead
 pub mod Decisions
 pub mod Determined
 pub mod Witnesses

@@ -1,2 +1,3 @@
 pub mod Comparing
 pub mod Deciding
+pub mod Leading

@@ -8,7 +8,8 @@ ghost use mathlib.Core.Path.{_≡_};
 ghost use Prim.Native.Nat.{_<_};
 ghost use Rattle.rank.specs.Ranked.{unpack};
 ghost use Rattle.decide.specs.Comparing.{fewerOf, evenOf, mirrorOf, compareOf};
-ghost use Rattle.decide.specs.Deciding.{ownSet, setOf, beatsOf, byTopology, ownBeats, beatsErbest, nearerOf, otherwiseOf, decisionOf, decideOf};
+ghost use Rattle.decide.specs.Deciding.{ownSet, setOf, beatsOf, byTopology, ownBeats, beatsErbest, nearerOf, decisionOf, decideOf};
+ghost use Rattle.decide.specs.Leading.{leadOf, byClassOf, byEbestOf, ledOf};
 use rank::Candidate;
 use rank::Grandmaster;
 use rank::PortIdentity;
@@ -214,41 +215,75 @@ pub enum Decision {
     S2,
 }
 
-// The decision of port `port` where Ebest is `e` and our class is not one of 1 to 127.
-fn otherwise(own: Grandmaster, e: Candidate, list: Ranked, port: u8, best: Erbest) -> Decision
-    ensures { λ r. ⌜ r ≡ otherwiseOf own e (unpack list) port best ⌝ }
+// Whose lead all ports follow: our own clock's by its class, our own clock's because nothing that is heard beats it, or that
+// of Ebest.
+pub enum Lead {
+    Class,
+    Ours,
+    Ebest(Candidate),
+}
+
+// The lead by our own clock and a ranked list. It is the same for every port.
+pub fn leading(own: Grandmaster, list: Ranked) -> Lead
+    ensures { λ r. ⌜ r ≡ leadOf own (unpack list) ⌝ }
 {
-    let p = e.port;
-    if own_beats(own, e, p) {
-        return Decision::M2;
+    if (1 <= own.class) & (own.class <= 127) {
+        return Lead::Class;
     }
-    if p == port {
+    if list.len == 0 {
+        return Lead::Ours;
+    }
+    let e = list.slots[0];
+    if own_beats(own, e, e.port) {
+        return Lead::Ours;
+    }
+    Lead::Ebest(e)
+}
+
+// The decision of port `port` where our class is one of 1 to 127.
+fn by_class(own: Grandmaster, port: u8, best: Erbest) -> Decision
+    ensures { λ r. ⌜ r ≡ byClassOf own port best ⌝ }
+{
+    if beats_erbest(own, port, best) {
+        return Decision::M1;
+    }
+    Decision::P1
+}
+
+// The decision of port `port` where Ebest, the candidate `e`, leads; `listed` says whether the port is in the ranked list.
+fn by_ebest(e: Candidate, clock: u64, listed: bool, port: u8, best: Erbest) -> Decision
+    ensures { λ r. ⌜ r ≡ byEbestOf e clock listed port best ⌝ }
+{
+    if e.port == port {
         return Decision::S1;
     }
-    if !nearer(e, own.identity, port, best) {
+    if !nearer(e, clock, port, best) {
         return Decision::M3;
     }
-    if rank::holds(list, port) {
+    if listed {
         return Decision::S2;
     }
     Decision::P2
+}
+
+// The decision of port `port`, a port of the clock, by the lead, and by whether the port is in the ranked list.
+pub fn led(own: Grandmaster, lead: Lead, listed: bool, port: u8, best: Erbest) -> Decision
+    ensures { λ r. ⌜ r ≡ ledOf own lead listed port best ⌝ }
+{
+    match lead {
+        Lead::Class => by_class(own, port, best),
+        Lead::Ours => Decision::M2,
+        Lead::Ebest(e) => by_ebest(e, own.identity, listed, port, best),
+    }
 }
 
 // The decision of port `port`, a port of the clock, by a ranked list.
 fn rule(own: Grandmaster, list: Ranked, port: u8, best: Erbest) -> Decision
     ensures { λ r. ⌜ r ≡ decisionOf own (unpack list) port best ⌝ }
 {
-    if (1 <= own.class) & (own.class <= 127) {
-        if beats_erbest(own, port, best) {
-            return Decision::M1;
-        }
-        return Decision::P1;
-    }
-    if list.len == 0 {
-        return Decision::M2;
-    }
-    let e = list.slots[0];
-    otherwise(own, e, list, port, best)
+    let lead = leading(own, list);
+    let listed = rank::holds(list, port);
+    led(own, lead, listed, port, best)
 }
 
 // What deciding answers.

@@ -14,32 +14,13 @@ use rank::Ranking;
 use refusal::Outcome;
 use refusal::Refusal;
 
-// The ranking of a run, and whether all its words fit.
-fn ranked(run: &[[u64; 11]]) -> Ranking
-    ensures { λ r. ⌜ r ≡ rankedRun (now (run .entry)) ⌝ }
-{
-    let r = candidate_words::runs::rank_run(run);
-    let whole = fits::run_fits(run);
-    fits::ranking_fitted(r, whole)
-}
-
 // The ranked list of a run of candidates, in any order, with repeats.
 #[no_mangle]
 pub extern "C" fn dz_rank(run: &[[u64; 11]], list: &mut [u64; 45]) -> u64
     ensures answer { λ r. ⌜ r ≡ codeOf (rankedRun (now (run .entry)) .outcome) ⌝ }
     ensures words { λ _. ⌜ now (list .exit) ≡ rankingWords (rankedRun (now (run .entry))) (now (list .entry)) ⌝ }
 {
-    candidate_words::answers::put_ranking(list, ranked(run))
-}
-
-// The merging of two lists, and whether their words fit.
-fn merged(a: &[u64; 45], b: &[u64; 45]) -> Ranking
-    ensures { λ r. ⌜ r ≡ mergedLists (now (a .entry)) (now (b .entry)) ⌝ }
-{
-    let m = rank::merge(candidates::ranked_of(a), candidates::ranked_of(b));
-    let first = fits::list_fits(a);
-    let second = fits::list_fits(b);
-    fits::ranking_fitted(m, first & second)
+    candidate_words::places::rank_run(run, list)
 }
 
 // The ranked list of all that two ranked lists were ranked of.
@@ -48,7 +29,7 @@ pub extern "C" fn dz_merge(a: &[u64; 45], b: &[u64; 45], list: &mut [u64; 45]) -
     ensures answer { λ r. ⌜ r ≡ codeOf (mergedLists (now (a .entry)) (now (b .entry)) .outcome) ⌝ }
     ensures words { λ _. ⌜ now (list .exit) ≡ rankingWords (mergedLists (now (a .entry)) (now (b .entry))) (now (list .entry)) ⌝ }
 {
-    candidate_words::answers::put_ranking(list, merged(a, b))
+    candidate_words::places::merge_lists(a, b, list)
 }
 
 // Whether the words that a port is decided by all fit.

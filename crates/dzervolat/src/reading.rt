@@ -6,6 +6,7 @@ ghost use Rattle.message.specs.Reading.{readOf};
 ghost use Rattle.message.specs.Parts.{tailIn, dataIn, lookupOf, suffixOf, linkOf};
 ghost use Rattle.origin.specs.Origin.{originCheck, originIn};
 ghost use Rattle.message_words.specs.Answers.{readCode, readWords, tailWords, tlvCode, tlvWords, suffixCode, suffixWords, linkCode, linkWords, originWords};
+use refusal::Outcome;
 
 // A message in twenty words, and where its tail begins and how long it is.
 #[no_mangle]
@@ -19,10 +20,15 @@ pub extern "C" fn dz_read(
     ensures words { λ _. ⌜ now (message .exit) ≡ readWords (readOf magic (now (octets .entry))) (now (message .entry)) ⌝ }
     ensures rest { λ _. ⌜ now (tail .exit) ≡ tailWords (readOf magic (now (octets .entry))) (length (tailIn magic (now (octets .entry)))) (now (tail .entry)) ⌝ }
 {
-    let r = message::reading::read(octets, magic);
-    let t = message::parts::tail(octets, magic);
-    message_words::answers::put_tail(tail, r, t.len());
-    message_words::answers::put_read(message, r)
+    let b = message::sound::sound_bounds(octets, magic);
+    let size = b.size;
+    let length = b.length;
+    if size == 0 {
+        return refusal::code(message::reading::check(octets, magic));
+    }
+    *tail = [size as u64, (length - size) as u64];
+    message_words::reading::put_message(message, octets);
+    0
 }
 
 // The first TLV of a type: 1, where its data begin in the message and how many octets they are; or zeros.
@@ -32,8 +38,8 @@ pub extern "C" fn dz_lookup(octets: &[u8], kind: u16, magic: u16, found: &mut [u
     ensures words { λ _. ⌜ now (found .exit) ≡ tlvWords (lookupOf magic kind (now (octets .entry))) (length (dataIn magic kind (now (octets .entry)))) (now (found .entry)) ⌝ }
 {
     let x = message::parts::looked_up(octets, kind, magic);
-    let d = message::parts::lookup(octets, kind, magic);
-    message_words::answers::put_tlv(found, x, d.len())
+    let length = message::parts::data_length(octets, x);
+    message_words::answers::put_tlv(found, x, length)
 }
 
 // The suffix of an Announce: 1 and wrFlags, or zeros.
@@ -65,7 +71,11 @@ pub extern "C" fn dz_origin<'a>(
     ensures answer { λ r. ⌜ r ≡ codeOf (originCheck magic (now (sync .entry)) (now (follow .entry))) ⌝ }
     ensures words { λ _. ⌜ now (stamp .exit) ≡ originWords (originCheck magic (now (sync .entry)) (now (follow .entry))) (originIn magic (now (sync .entry)) (now (follow .entry))) (now (stamp .entry)) ⌝ }
 {
-    let x = origin::origin_says(sync, follow, magic);
-    let part = origin::origin(sync, follow, magic);
-    message_words::answers::put_origin(stamp, x, part)
+    match origin::origin_says(sync, follow, magic) {
+        Outcome::Refused(x) => refusal::number(x),
+        Outcome::Done => {
+            message_words::answers::put_origin(stamp, origin::checked_origin(sync, follow));
+            0
+        }
+    }
 }

@@ -15,8 +15,7 @@ fn write(out: &mut [u8], message: &[u64; 20], tail: &[u8], magic: u16) -> Writte
     if !message_words::is_whole(message) {
         return Written::Refused(Refusal::Field);
     }
-    let m = message_words::message_of(message);
-    writer::writing::write(out, m, tail, magic)
+    message_words::straight::write(out, message, tail, magic)
 }
 
 // Writes a message and its tail, and says how many octets they have.

@@ -1,5 +1,6 @@
 pub mod Bests
 pub mod Electing
+pub mod Gathering
 pub mod Filling
 pub mod Deciding
 pub mod Cards

@@ -14,7 +14,6 @@ use Rattle.senders.specs.declared.Asked.{Asked}
 use Rattle.senders.specs.declared.Asked.the-variants as asked
 use Rattle.senders.specs.Port.{tab, bestOf}
 use Rattle.ports.specs.Words.{portAt}
-use Rattle.ports.specs.Asking.{bestOn}
 use Rattle.decide.specs.declared.Erbest.{Erbest}
 use Rattle.decide.specs.declared.Erbest.the-variants.{Absent, Present}
 use Rattle.decide.specs.declared.Decision.{Decision}
@@ -57,17 +56,6 @@ octetsAt own ws t = tab 18 (λ i. codeOf (decisionAt own ws t (suc i)))
 -- "State, output buffers and input stay as they were.", or every port's number
 abbrev pub outAfter : Grandmaster → List ℕ → ℕ → List ℕ → List ℕ
 outAfter own ws t out = pick (anyLate ws t everyPort) out (octetsAt own ws t)
-
--- the same by whatever list is handed in, with what the calls of a single port answer
-abbrev pub octetOf : Answer → ℕ
-octetOf (answer.Decided d) = codeOf d
-octetOf (answer.Refused x) = 0
-
-abbrev pub octetBy : Grandmaster → Ranked → List ℕ → ℕ → ℕ → ℕ
-octetBy own list ws t p = octetOf (decideOf own list p (erbestOf (bestOn ws p t)))
-
-abbrev pub octetsBy : Grandmaster → Ranked → List ℕ → ℕ → List ℕ
-octetsBy own list ws t = tab 18 (λ i. octetBy own list ws t (suc i))
 
 -- our own clock leads: our class is 1 to 127, or our set beats Ebest
 unfoldable pub leads : Grandmaster → Candidate → Bool

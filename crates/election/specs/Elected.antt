@@ -8,9 +8,7 @@ use Rattle.refusal.specs.declared.Refusal.the-variants.{Backward}
 use Rattle.rank.specs.declared.Candidate.{Candidate}
 use Rattle.rank.specs.declared.Ranking.{Ranking}
 use Rattle.rank.specs.Ranked.{rankOf}
-use Rattle.rank.specs.Calls.{refusedOf, doneOf, stepOf}
-use Rattle.senders.specs.declared.Asked.{Asked}
-use Rattle.senders.specs.declared.Asked.the-variants.{Refused, Absent, Found}
+use Rattle.rank.specs.Calls.{refusedOf, doneOf}
 use Rattle.senders.specs.Port.{tab, candidatesOf}
 use Rattle.ports.specs.Words.{portAt}
 
@@ -32,9 +30,3 @@ heardOn ws t (p ∷ ps) = candidatesOf p (portAt ws p) t ++ heardOn ws t ps
 -- collection of valid candidates, in rank order, cut after four."
 unfoldable pub electedOf : List ℕ → ℕ → List ℕ → Ranking
 electedOf ws t ps = refuse (anyLate ws t ps) (refusedOf Backward) (doneOf (rankOf (heardOn ws t ps)))
-
--- one port's best more
-abbrev pub withBest : Ranking → Asked → Ranking
-withBest s (Refused x) = refusedOf x
-withBest s Absent = s
-withBest s (Found c) = stepOf s c

@@ -1,3 +1,4 @@
 pub mod Elected
 pub mod Decisions
 pub mod Cards
+pub mod Places

@@ -4,22 +4,26 @@
 // Refused with 11 where asking some port for its candidates at that time is; then no decision is written. What a decision
 // brings about is left to the host.
 ghost use mathlib.Core.Path.{_≡_};
-ghost use lib.ListN.{length};
+ghost use mathlib.Core.List.{[], map};
+ghost use Prim.Native.Nat.{suc, _≤_};
+ghost use lib.ListN.{length, getD};
+ghost use Rattle.rank.specs.Ranked.{pack};
 ghost use Rattle.rank.specs.Calls.{refusedOf};
-ghost use Rattle.ports.specs.Asking.{bestOn};
-ghost use Rattle.decide.specs.Deciding.{decideOf};
-ghost use Rattle.election.specs.Elected.{everyPort, withBest, electedOf};
-ghost use Rattle.election.specs.Decisions.{codeOf, octetOf, erbestOf, octetsBy, outAfter, parentOf, chosenBy, followedBy};
+ghost use Rattle.senders.specs.Port.{tab};
+ghost use Rattle.ports.specs.Places.{candidateAt, foundAt};
+ghost use Rattle.election.specs.Elected.{everyPort, anyLate, electedOf};
+ghost use Rattle.election.specs.Decisions.{codeOf, erbestOf, outAfter, parentOf, chosenBy, followedBy};
+ghost use Rattle.election.specs.Places.{topOf, rankAmong, putAt, grownOf, withPlace, gather, placesAt, listedIn, octetBy, Each, Inside, Comes, Joins, Held};
 use decide::Answer;
 use decide::Decision;
 use decide::Erbest;
+use decide::Lead;
 use rank::Candidate;
 use rank::Grandmaster;
 use rank::Ranked;
 use rank::Ranking;
 use refusal::Outcome;
 use refusal::Refusal;
-use senders::Asked;
 
 // The ports of the clock are numbered from 1 to this.
 const PORTS: u8 = 18;
@@ -34,14 +38,149 @@ fn refused(x: Refusal) -> Ranking
     }
 }
 
-// A ranked list with one port's best more, where the port has one; a port that refuses to be asked refuses the list.
-fn with_best(s: Ranking, best: Asked) -> Ranking
-    ensures { λ r. ⌜ r ≡ withBest s best ⌝ }
+// The best candidates that some ports hear, by their places in the words, best first: the first `len` places. One of a port,
+// and no more than four.
+struct Top {
+    len: usize,
+    places: [usize; 4],
+}
+
+// How many of the places of `top` the candidate at `a` does not stand before.
+fn position(words: &[u64], top: Top, a: usize) -> usize
+    requires { ⌜ Comes (now words) a top ⌝ }
+    ensures { λ r. ⌜ r ≡ rankAmong (now (words .entry)) a (topOf top) ⌝ }
 {
-    match best {
-        Asked::Refused(x) => refused(x),
-        Asked::Absent => s,
-        Asked::Found(c) => rank::step(s, c),
+    let n = top.len;
+    let mut i: usize = 0;
+    while i < n {
+        let b = top.places[i];
+        if ports::places::is_before(words, a, b) {
+            return i;
+        }
+        i += 1;
+    }
+    i
+}
+
+// How many places there are with one more.
+fn grown(n: usize) -> usize
+    ensures { λ r. ⌜ r ≡ grownOf n ⌝ }
+{
+    if n < 4 { n + 1 } else { n }
+}
+
+// The places with one more behind the first `i` of them.
+fn put_at(top: Top, i: usize, a: usize) -> Top
+    requires { ⌜ (top .len ≤ 4) × (i ≤ top .len) ⌝ }
+    ensures { λ r. ⌜ (topOf r ≡ putAt i a (topOf top)) × (r .len ≤ 4) ⌝ }
+{
+    let len = grown(top.len);
+    let b = top.places[0];
+    let c = top.places[1];
+    let d = top.places[2];
+    if i == 0 {
+        return Top {
+            len,
+            places: [a, b, c, d],
+        };
+    }
+    if i == 1 {
+        return Top {
+            len,
+            places: [b, a, c, d],
+        };
+    }
+    if i == 2 {
+        return Top {
+            len,
+            places: [b, c, a, d],
+        };
+    }
+    if i == 3 {
+        return Top {
+            len,
+            places: [b, c, d, a],
+        };
+    }
+    top
+}
+
+// The places with one port's more, where it has one.
+fn with_place(words: &[u64], top: Top, a: usize) -> Top
+    requires { ⌜ Joins (now words) a top ⌝ }
+    ensures { λ r. ⌜ (topOf r ≡ withPlace (now (words .entry)) (topOf top) a) × (r .len ≤ 4) ⌝ }
+{
+    if a == 0 {
+        return top;
+    }
+    let i = position(words, top, a);
+    put_at(top, i, a)
+}
+
+// Asks each port for its best at `t`: the place of each, and those of the four best of all.
+fn listen(words: &[u64], t: u64, places: &mut [usize]) -> Top
+    requires { ⌜ (length (now words) ≡ 1764) × (length (now places) ≡ 18) ⌝ }
+    ensures top { λ r. ⌜ (topOf r ≡ gather (now (words .entry)) t [] everyPort) × (r .len ≤ 4) ⌝ }
+    ensures places { λ _. ⌜ now (places .exit) ≡ placesAt (now (words .entry)) t ⌝ }
+{
+    let mut top = Top {
+        len: 0,
+        places: [0; 4],
+    };
+    let mut p: u8 = 1;
+    while p <= PORTS {
+        let a = ports::places::place(words, p, t);
+        places[p as usize - 1] = a;
+        top = with_place(words, top, a);
+        p += 1;
+    }
+    top
+}
+
+// The ranked list of the candidates at the places.
+fn list_of(words: &[u64], top: Top) -> Ranked
+    requires { ⌜ Held (now words) top ⌝ }
+    ensures { λ r. ⌜ r ≡ pack (map (candidateAt (now (words .entry))) (topOf top)) ⌝ }
+{
+    let none = rank::empty();
+    let n = top.len;
+    let mut slots = none.slots;
+    let mut i: usize = 0;
+    while i < n {
+        let a = top.places[i];
+        slots[i] = ports::places::candidate(words, a);
+        i += 1;
+    }
+    Ranked { len: n, slots }
+}
+
+// Whether `t` lies before the last accepted time of some port.
+fn late(words: &[u64], t: u64) -> bool
+    requires { ⌜ length (now words) ≡ 1764 ⌝ }
+    ensures { λ r. ⌜ r ≡ anyLate (now (words .entry)) t everyPort ⌝ }
+{
+    let mut p: u8 = 1;
+    while p <= PORTS {
+        if ports::places::is_late(words, p, t) {
+            return true;
+        }
+        p += 1;
+    }
+    false
+}
+
+fn elect_in(words: &[u64], t: u64) -> Ranking
+    requires { ⌜ length (now words) ≡ 1764 ⌝ }
+    ensures { λ r. ⌜ r ≡ electedOf (now (words .entry)) t everyPort ⌝ }
+{
+    if late(words, t) {
+        return refused(Refusal::Backward);
+    }
+    let mut places = [0usize; 18];
+    let top = listen(words, t, &mut places[..]);
+    Ranking {
+        outcome: Outcome::Done,
+        list: list_of(words, top),
     }
 }
 
@@ -49,14 +188,7 @@ fn with_best(s: Ranking, best: Asked) -> Ranking
 pub fn elect(words: &[u64; 1764], t: u64) -> Ranking
     ensures { λ r. ⌜ r ≡ electedOf (now (words .entry)) t everyPort ⌝ }
 {
-    let mut s = rank::start(0);
-    let mut p: u8 = 1;
-    while p <= PORTS {
-        let best = ports::asking::best(words, p, t);
-        s = with_best(s, best);
-        p += 1;
-    }
-    s
+    elect_in(&words[..], t)
 }
 
 // A decision's number: M1, M2, M3, S1, S2, P1, P2 are 1 to 7.
@@ -74,45 +206,72 @@ pub fn code(d: Decision) -> u8
     }
 }
 
-// The octet of what deciding answers: the decision's number. Nothing that is decided here is refused; 0 would say so.
-fn octet(a: Answer) -> u8
-    ensures { λ r. ⌜ r ≡ octetOf a ⌝ }
+// Whether one of the places is of port `p`.
+fn listed(top: Top, p: u8) -> bool
+    requires { ⌜ (top .len ≤ 4) × Each Inside (topOf top) ⌝ }
+    ensures { λ r. ⌜ r ≡ listedIn p (topOf top) ⌝ }
 {
-    match a {
-        Answer::Decided(d) => code(d),
-        Answer::Refused(_) => 0,
+    let n = top.len;
+    let mut i: usize = 0;
+    while i < n {
+        let a = top.places[i];
+        if a / 98 + 1 == p as usize {
+            return true;
+        }
+        i += 1;
     }
+    false
 }
 
-// A port's best as deciding takes it.
-fn erbest(best: Asked) -> Erbest
-    ensures { λ r. ⌜ r ≡ erbestOf best ⌝ }
+// The candidate at a port's place, as deciding takes it.
+fn erbest(words: &[u64], a: usize) -> Erbest
+    requires { ⌜ (length (now words) ≡ 1764) × Inside a ⌝ }
+    ensures { λ r. ⌜ r ≡ erbestOf (foundAt (now (words .entry)) a) ⌝ }
 {
-    match best {
-        Asked::Refused(_) => Erbest::Absent,
-        Asked::Absent => Erbest::Absent,
-        Asked::Found(c) => Erbest::Present(c),
+    if a == 0 {
+        return Erbest::Absent;
     }
+    Erbest::Present(ports::places::candidate(words, a))
 }
 
-// The octet of port `p`, decided by a ranked list and the port's best at `t`.
-fn octet_of(words: &[u64; 1764], own: Grandmaster, list: Ranked, t: u64, p: u8) -> u8
-    ensures { λ r. ⌜ r ≡ octetOf (decideOf own list p (erbestOf (bestOn (now (words .entry)) p t))) ⌝ }
+// The octet of port `p`, whose best is at `a`.
+fn octet(words: &[u64], own: Grandmaster, lead: Lead, top: Top, p: u8, a: usize) -> u8
+    requires { ⌜ Held (now words) top × Inside a ⌝ }
+    ensures { λ r. ⌜ r ≡ octetBy (now (words .entry)) own lead (topOf top) p a ⌝ }
 {
-    let best = erbest(ports::asking::best(words, p, t));
-    octet(decide::decide(own, list, p, best))
+    let best = erbest(words, a);
+    let its = listed(top, p);
+    code(decide::led(own, lead, its, p, best))
 }
 
 // Writes each port's octet.
-fn write(words: &[u64; 1764], own: Grandmaster, list: Ranked, t: u64, out: &mut [u8])
-    requires { ⌜ length (now out) ≡ 18 ⌝ }
-    ensures { λ _. ⌜ now (out .exit) ≡ octetsBy own list (now (words .entry)) t ⌝ }
+fn write(words: &[u64], own: Grandmaster, lead: Lead, top: Top, places: &[usize], out: &mut [u8])
+    requires { ⌜ Held (now words) top × (length (now out) ≡ 18) × (length (now places) ≡ 18) × Each Inside (now places) ⌝ }
+    ensures { λ _. ⌜ now (out .exit) ≡ tab 18 (λ i. octetBy (now (words .entry)) own lead (topOf top) (suc i) (getD (now (places .entry)) i 0)) ⌝ }
 {
     let mut p: u8 = 1;
     while p <= PORTS {
-        let n = octet_of(words, own, list, t, p);
-        out[p as usize - 1] = n;
+        let a = places[p as usize - 1];
+        out[p as usize - 1] = octet(words, own, lead, top, p, a);
         p += 1;
+    }
+}
+
+fn decide_in(words: &[u64], own: Grandmaster, t: u64, out: &mut [u8]) -> Ranking
+    requires { ⌜ (length (now words) ≡ 1764) × (length (now out) ≡ 18) ⌝ }
+    ensures { λ r. ⌜ (r ≡ electedOf (now (words .entry)) t everyPort) × (now (out .exit) ≡ outAfter own (now (words .entry)) t (now (out .entry))) ⌝ }
+{
+    if late(words, t) {
+        return refused(Refusal::Backward);
+    }
+    let mut places = [0usize; 18];
+    let top = listen(words, t, &mut places[..]);
+    let list = list_of(words, top);
+    let lead = decide::leading(own, list);
+    write(words, own, lead, top, &places[..], out);
+    Ranking {
+        outcome: Outcome::Done,
+        list,
     }
 }
 
@@ -120,14 +279,7 @@ fn write(words: &[u64; 1764], own: Grandmaster, list: Ranked, t: u64, out: &mut 
 pub fn decide_all(words: &[u64; 1764], own: Grandmaster, t: u64, out: &mut [u8; 18]) -> Ranking
     ensures { λ r. ⌜ (r ≡ electedOf (now (words .entry)) t everyPort) × (now (out .exit) ≡ outAfter own (now (words .entry)) t (now (out .entry))) ⌝ }
 {
-    let r = elect(words, t);
-    let outcome = r.outcome;
-    let Outcome::Done = outcome else {
-        return r;
-    };
-    let list = r.list;
-    write(words, own, list, t, &mut out[..]);
-    r
+    decide_in(&words[..], own, t, &mut out[..])
 }
 
 // Whom the clock follows.

@@ -1,12 +1,13 @@
 // The octets of the parts of a message, and their way into a buffer (IEEE 1588-2008, clause 13). Reserved fields are zero.
 //
-// Each part is made by value and copied in whole. Nothing is refused here: what is asked of the caller is that a buffer
-// has the room and that transportSpecific fits, which `writer` has checked.
+// Each number is stored where it belongs, with no copy made first. Nothing is refused here: what is asked of the caller is that
+// a buffer has the room and that transportSpecific fits, which `writer` has checked.
 ghost use mathlib.Core.Path.{_≡_};
 ghost use mathlib.Core.List.{[]};
 ghost use Prim.Native.Nat.{_+_, _≤_, _<_};
-ghost use lib.ListN.{length};
+ghost use lib.ListN.{length, take};
 ghost use Rattle.layout.specs.Layout.{kindOf, controlOf, sizeOf, identityOctets, stampOctets, leadOctets, closeOctets, announceOctets, headerOctets, firstOctets, moreOctets, bodyOctets, over};
+ghost use Rattle.layout.specs.Put.{startOctets, offsetOctets, grandmasterOctets};
 use message::fields::ANNOUNCE;
 use message::fields::Announce;
 use message::fields::Body;
@@ -18,6 +19,8 @@ use message::fields::PortIdentity;
 use message::fields::SIGNALING;
 use message::fields::SYNC;
 use message::fields::Timestamp;
+
+mod put;
 
 // versionPTP.
 const VERSION: u8 = 2;
@@ -54,98 +57,108 @@ fn control_of(b: Body) -> u8
 }
 
 // A port of a clock, ten octets.
-fn identity_octets(p: PortIdentity) -> [u8; 10]
-    ensures { λ r. ⌜ r ≡ identityOctets p [] ⌝ }
+pub fn put_identity(out: &mut [u8], at: usize, p: PortIdentity)
+    requires { ⌜ at + 10 ≤ length (now out) ⌝ }
+    ensures { λ _. ⌜ now (out .exit) ≡ over (now (out .entry)) at (identityOctets p []) ⌝ }
 {
-    let c = octets::eight(p.clock);
-    let n = octets::two(p.port);
-    [c[0], c[1], c[2], c[3], c[4], c[5], c[6], c[7], n[0], n[1]]
+    put::eight(out, at, p.clock);
+    put::two(out, at + 8, p.port as u64);
 }
 
 // A timestamp, ten octets.
-fn stamp_octets(t: Timestamp) -> [u8; 10]
-    ensures { λ r. ⌜ r ≡ stampOctets t [] ⌝ }
+pub fn put_stamp(out: &mut [u8], t: Timestamp)
+    requires { ⌜ 44 ≤ length (now out) ⌝ }
+    ensures { λ _. ⌜ now (out .exit) ≡ over (now (out .entry)) 34 (stampOctets t []) ⌝ }
 {
-    let s = octets::six(t.seconds);
-    let n = octets::four(t.nanoseconds);
-    [s[0], s[1], s[2], s[3], s[4], s[5], n[0], n[1], n[2], n[3]]
+    put::six(out, 34, t.seconds);
+    put::four(out, 40, t.nanoseconds as u64);
+}
+
+// Octets 0 to 7 of a header.
+fn put_start(out: &mut [u8], h: Header, kind: u8, size: u16)
+    requires { ⌜ (h .transport < 16) × (kind < 16) × (20 ≤ length (now out)) ⌝ }
+    ensures { λ _. ⌜ now (out .exit) ≡ over (now (out .entry)) 0 (startOctets h kind size) ⌝ }
+{
+    put::one(out, 0, h.transport * 16 + kind);
+    put::one(out, 1, VERSION);
+    put::two(out, 2, size as u64);
+    put::one(out, 4, h.domain);
+    put::one(out, 5, RESERVED);
+    put::two(out, 6, h.flags as u64);
 }
 
 // Octets 0 to 19 of a header.
-fn lead_octets(h: Header, kind: u8, size: u16) -> [u8; 20]
-    requires { ⌜ (h .transport < 16) × (kind < 16) ⌝ }
-    ensures { λ r. ⌜ r ≡ leadOctets h kind size [] ⌝ }
+pub fn put_lead(out: &mut [u8], h: Header, kind: u8, size: u16)
+    requires { ⌜ (h .transport < 16) × (kind < 16) × (20 ≤ length (now out)) ⌝ }
+    ensures { λ _. ⌜ now (out .exit) ≡ over (now (out .entry)) 0 (leadOctets h kind size []) ⌝ }
 {
-    let l = octets::two(size);
-    let f = octets::two(h.flags);
-    let c = octets::eight(octets::bits64(h.correction));
-    [
-        h.transport * 16 + kind,
-        VERSION,
-        l[0],
-        l[1],
-        h.domain,
-        RESERVED,
-        f[0],
-        f[1],
-        c[0],
-        c[1],
-        c[2],
-        c[3],
-        c[4],
-        c[5],
-        c[6],
-        c[7],
-        RESERVED,
-        RESERVED,
-        RESERVED,
-        RESERVED,
-    ]
+    let correction = octets::bits64(h.correction);
+    put_start(out, h, kind, size);
+    put::eight(out, 8, correction);
+    put::four(out, 16, 0);
 }
 
 // Octets 30 to 33 of a header.
-fn close_octets(h: Header, control: u8) -> [u8; 4]
-    ensures { λ r. ⌜ r ≡ closeOctets h control [] ⌝ }
+pub fn put_close(out: &mut [u8], h: Header, control: u8)
+    requires { ⌜ 34 ≤ length (now out) ⌝ }
+    ensures { λ _. ⌜ now (out .exit) ≡ over (now (out .entry)) 30 (closeOctets h control []) ⌝ }
 {
-    let q = octets::two(h.sequence);
-    let i = octets::bits8(h.interval);
-    [q[0], q[1], control, i]
+    let interval = octets::bits8(h.interval);
+    put::two(out, 30, h.sequence as u64);
+    put::one(out, 32, control);
+    put::one(out, 33, interval);
+}
+
+// Octets 44 to 49 of an Announce.
+fn put_offset(out: &mut [u8], a: Announce)
+    requires { ⌜ 64 ≤ length (now out) ⌝ }
+    ensures { λ _. ⌜ now (out .exit) ≡ over (now (out .entry)) 44 (offsetOctets a) ⌝ }
+{
+    let utc = octets::bits16(a.utc);
+    put::two(out, 44, utc as u64);
+    put::one(out, 46, RESERVED);
+    put::one(out, 47, a.priority1);
+    put::one(out, 48, a.class);
+    put::one(out, 49, a.accuracy);
+}
+
+// Octets 50 to 63 of an Announce.
+fn put_grandmaster(out: &mut [u8], a: Announce)
+    requires { ⌜ 64 ≤ length (now out) ⌝ }
+    ensures { λ _. ⌜ now (out .exit) ≡ over (now (out .entry)) 50 (grandmasterOctets a) ⌝ }
+{
+    put::two(out, 50, a.variance as u64);
+    put::one(out, 52, a.priority2);
+    put::eight(out, 53, a.grandmaster);
+    put::two(out, 61, a.steps as u64);
+    put::one(out, 63, a.timesource);
 }
 
 // Octets 44 to 63 of an Announce.
-fn announce_octets(a: Announce) -> [u8; 20]
-    ensures { λ r. ⌜ r ≡ announceOctets a [] ⌝ }
+pub fn put_announce(out: &mut [u8], a: Announce)
+    requires { ⌜ 64 ≤ length (now out) ⌝ }
+    ensures { λ _. ⌜ now (out .exit) ≡ over (now (out .entry)) 44 (announceOctets a []) ⌝ }
 {
-    let u = octets::two(octets::bits16(a.utc));
-    let v = octets::two(a.variance);
-    let g = octets::eight(a.grandmaster);
-    let n = octets::two(a.steps);
-    [
-        u[0],
-        u[1],
-        RESERVED,
-        a.priority1,
-        a.class,
-        a.accuracy,
-        v[0],
-        v[1],
-        a.priority2,
-        g[0],
-        g[1],
-        g[2],
-        g[3],
-        g[4],
-        g[5],
-        g[6],
-        g[7],
-        n[0],
-        n[1],
-        a.timesource,
-    ]
+    put_offset(out, a);
+    put_grandmaster(out, a);
 }
 
-// All of `src` goes into `dst` from `at` on.
-pub fn copy_in(dst: &mut [u8], at: usize, src: &[u8])
+// As many octets of `src` as make up whole eights go into `dst` from `at` on; how many that are.
+fn copy_eights(dst: &mut [u8], at: usize, src: &[u8]) -> usize
+    requires { ⌜ at + length (now src) ≤ length (now dst) ⌝ }
+    ensures count { λ r. ⌜ (r ≤ length (now (src .entry))) × (length (now (src .entry)) < r + 8) ⌝ }
+    ensures octets { λ r. ⌜ now (dst .exit) ≡ over (now (dst .entry)) at (take r (now (src .entry))) ⌝ }
+{
+    let mut i: usize = 0;
+    while 8 <= src.len() - i {
+        put::eight(dst, at + i, octets::held::u64_at(src, i));
+        i += 8;
+    }
+    i
+}
+
+// All of `src` goes into `dst` from `at` on, octet by octet.
+fn copy_each(dst: &mut [u8], at: usize, src: &[u8])
     requires { ⌜ at + length (now src) ≤ length (now dst) ⌝ }
     ensures { λ _. ⌜ now (dst .exit) ≡ over (now (dst .entry)) at (now (src .entry)) ⌝ }
 {
@@ -156,30 +169,42 @@ pub fn copy_in(dst: &mut [u8], at: usize, src: &[u8])
     }
 }
 
+// All of `src` goes into `dst` from `at` on: whole eights, and the last eight once more where some octets are left.
+pub fn copy_in(dst: &mut [u8], at: usize, src: &[u8])
+    requires { ⌜ at + length (now src) ≤ length (now dst) ⌝ }
+    ensures { λ _. ⌜ now (dst .exit) ≡ over (now (dst .entry)) at (now (src .entry)) ⌝ }
+{
+    let n = src.len();
+    if n < 8 {
+        copy_each(dst, at, src);
+        return;
+    }
+    copy_eights(dst, at, src);
+    put::eight(dst, at + (n - 8), octets::held::u64_at(src, n - 8));
+}
+
 // The header of a message of `size` octets goes into the buffer.
 pub fn put_header(out: &mut [u8], h: Header, b: Body, size: u16)
     requires { ⌜ (h .transport < 16) × (34 ≤ length (now out)) ⌝ }
     ensures { λ _. ⌜ now (out .exit) ≡ over (now (out .entry)) 0 (headerOctets h b size []) ⌝ }
 {
-    let lead = lead_octets(h, kind_of(b), size);
-    let source = identity_octets(h.source);
-    let close = close_octets(h, control_of(b));
-    copy_in(out, 0, &lead);
-    copy_in(out, 20, &source);
-    copy_in(out, 30, &close);
+    put_lead(out, h, kind_of(b), size);
+    put_identity(out, 20, h.source);
+    put_close(out, h, control_of(b));
 }
 
 // Octets 34 to 43: the timestamp, in a Signaling the target.
-fn first_octets(b: Body) -> [u8; 10]
-    ensures { λ r. ⌜ r ≡ firstOctets b [] ⌝ }
+fn put_first(out: &mut [u8], b: Body)
+    requires { ⌜ 44 ≤ length (now out) ⌝ }
+    ensures { λ _. ⌜ now (out .exit) ≡ over (now (out .entry)) 34 (firstOctets b []) ⌝ }
 {
     match b {
-        Body::Sync(t) => stamp_octets(t),
-        Body::DelayReq(t) => stamp_octets(t),
-        Body::FollowUp(t) => stamp_octets(t),
-        Body::DelayResp(r) => stamp_octets(r.receive),
-        Body::Announce(a) => stamp_octets(a.origin),
-        Body::Signaling(p) => identity_octets(p),
+        Body::Sync(t) => put_stamp(out, t),
+        Body::DelayReq(t) => put_stamp(out, t),
+        Body::FollowUp(t) => put_stamp(out, t),
+        Body::DelayResp(r) => put_stamp(out, r.receive),
+        Body::Announce(a) => put_stamp(out, a.origin),
+        Body::Signaling(p) => put_identity(out, 34, p),
     }
 }
 
@@ -192,8 +217,8 @@ fn put_more(out: &mut [u8], b: Body)
         Body::Sync(_) => {}
         Body::DelayReq(_) => {}
         Body::FollowUp(_) => {}
-        Body::DelayResp(r) => copy_in(out, 44, &identity_octets(r.requester)),
-        Body::Announce(a) => copy_in(out, 44, &announce_octets(a)),
+        Body::DelayResp(r) => put_identity(out, 44, r.requester),
+        Body::Announce(a) => put_announce(out, a),
         Body::Signaling(_) => {}
     }
 }
@@ -203,7 +228,6 @@ pub fn put_body(out: &mut [u8], b: Body)
     requires { ⌜ sizeOf b ≤ length (now out) ⌝ }
     ensures { λ _. ⌜ now (out .exit) ≡ over (now (out .entry)) 34 (bodyOctets b []) ⌝ }
 {
-    let first = first_octets(b);
-    copy_in(out, 34, &first);
+    put_first(out, b);
     put_more(out, b);
 }

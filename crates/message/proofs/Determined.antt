@@ -31,6 +31,14 @@ use Rattle.message.proofs.reading.check.Reads as reading-check
 use Rattle.message.proofs.reading.check.Kinds as reading-check-kinds
 use Rattle.message.proofs.reading.read.Reads as reading-read
 use Rattle.message.proofs.reading.read.Kinds as reading-read-kinds
+use Rattle.message.proofs.parts.data_length.Reads as parts-data-length
+use Rattle.message.proofs.parts.data_length.Kinds as parts-data-length-kinds
+use Rattle.message.proofs.reading.bad_stamp.Reads as reading-bad-stamp
+use Rattle.message.proofs.reading.bad_stamp.Kinds as reading-bad-stamp-kinds
+use Rattle.message.proofs.sound.fixed_bounds.Reads as sound-fixed-bounds
+use Rattle.message.proofs.sound.fixed_bounds.Kinds as sound-fixed-bounds-kinds
+use Rattle.message.proofs.sound.sound_bounds.Reads as sound-sound-bounds
+use Rattle.message.proofs.sound.sound_bounds.Kinds as sound-sound-bounds-kinds
 
 module _ (κs : Lfts 1) (a : Dens κs announce-read-announce-kinds.ps) (x y : resT announce-read-announce-kinds.r κs .Denot)
     (e f : AtExit (endedOf 1 announce-read-announce-kinds.ps announce-read-announce-kinds.r) κs) where
@@ -96,3 +104,23 @@ module _ (κs : Lfts 1) (a : Dens κs reading-read-kinds.ps) (x y : resT reading
     (e f : AtExit (endedOf 1 reading-read-kinds.ps reading-read-kinds.r) κs) where
   pub reading-read-determined : reading-read.Post κs a x e → reading-read.Post κs a y f → x ≡ y
   reading-read-determined p q = p ∙ sym q
+
+module _ (κs : Lfts 1) (a : Dens κs parts-data-length-kinds.ps) (x y : resT parts-data-length-kinds.r κs .Denot)
+    (e f : AtExit (endedOf 1 parts-data-length-kinds.ps parts-data-length-kinds.r) κs) where
+  pub parts-data-length-determined : parts-data-length.Post κs a x e → parts-data-length.Post κs a y f → x ≡ y
+  parts-data-length-determined p q = p ∙ sym q
+
+module _ (κs : Lfts 1) (a : Dens κs reading-bad-stamp-kinds.ps) (x y : resT reading-bad-stamp-kinds.r κs .Denot)
+    (e f : AtExit (endedOf 1 reading-bad-stamp-kinds.ps reading-bad-stamp-kinds.r) κs) where
+  pub reading-bad-stamp-determined : reading-bad-stamp.Post κs a x e → reading-bad-stamp.Post κs a y f → x ≡ y
+  reading-bad-stamp-determined p q = p ∙ sym q
+
+module _ (κs : Lfts 1) (a : Dens κs sound-fixed-bounds-kinds.ps) (x y : resT sound-fixed-bounds-kinds.r κs .Denot)
+    (e f : AtExit (endedOf 1 sound-fixed-bounds-kinds.ps sound-fixed-bounds-kinds.r) κs) where
+  pub sound-fixed-bounds-determined : sound-fixed-bounds.Post κs a x e → sound-fixed-bounds.Post κs a y f → x ≡ y
+  sound-fixed-bounds-determined p q = p ∙ sym q
+
+module _ (κs : Lfts 1) (a : Dens κs sound-sound-bounds-kinds.ps) (x y : resT sound-sound-bounds-kinds.r κs .Denot)
+    (e f : AtExit (endedOf 1 sound-sound-bounds-kinds.ps sound-sound-bounds-kinds.r) κs) where
+  pub sound-sound-bounds-determined : sound-sound-bounds.Post κs a x e → sound-sound-bounds.Post κs a y f → x ≡ y
+  sound-sound-bounds-determined p q = p ∙ sym q

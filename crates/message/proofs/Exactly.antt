@@ -64,7 +64,7 @@ module _ (magic : ℕ) (s : List ℕ) where
   unfolding refuse
   bad-stamped p e = lent p ∙ rw e
 
-  stamped : IsStamped s → checkOf magic s ≡ tailCheck magic (tailOf s)
+  pub stamped : IsStamped s → checkOf magic s ≡ tailCheck magic (tailOf s)
   unfolding refuse
   stamped p = lent (p .0) ∙ rw (p .1)
 

@@ -7,7 +7,7 @@ use mathlib.Core.Bool.{Bool, true, false}
 use native.Mathlib.Omega.{arith}
 use borrow.Author.Tests.{ltb-true, eqb-true}
 use lib.Dec.{ltb}
-use lib.ListN.{length, take, drop}
+use lib.ListN.{length, take, drop, length-take, length-drop}
 use lib.Seq.{take-take, drop-drop, getD-take}
 use Rattle.octets.specs.Be.{be}
 use Rattle.octets.proofs.Laws.{be-drop}
@@ -20,7 +20,7 @@ use Rattle.tlv.specs.declared.walk.Sought.the-variants.{OfType}
 use Rattle.tlv.proofs.FaultLaws.{place-found}
 use Rattle.message.specs.Fields.{typeOf, lengthOf, fixedSize, tailOf}
 use Rattle.message.specs.Reading.{checkOf, by}
-use Rattle.message.specs.Parts.{firstOfType, tailIn, dataIn, lookupOf}
+use Rattle.message.specs.Parts.{firstOfType, tailIn, dataIn, lookupOf, IsWithin, dataLength}
 use Rattle.message.specs.declared.parts.TlvRead.{TlvRead}
 use Rattle.message.specs.declared.parts.TlvRead.the-variants.{Found, Absent, Refused}
 use Rattle.message.proofs.Laws.{bounded, tail-length}
@@ -57,6 +57,12 @@ absent-done (outcome.Refused r) x e = absurd (let z : _≡_ {A = ℕ} 0 1 = cc i
 absent-by : (b : Bool) (n : ℕ) → pick b (Found n) Absent ≡ Absent → b ≡ false
 absent-by true n e = absurd (let z : _≡_ {A = ℕ} 0 1 = cc in omega arith)
 absent-by false n e = refl
+
+-- a refusal is the checks'
+refused-by : (o : Outcome) (b : Bool) (n : ℕ) (x : Refusal) → by o Refused (pick b (Found n) Absent) ≡ Refused x → o ≡ outcome.Refused x
+refused-by outcome.Done true n x e = absurd (let z : _≡_ {A = ℕ} 0 1 = cc in omega arith)
+refused-by outcome.Done false n x e = absurd (let z : _≡_ {A = ℕ} 0 1 = cc in omega arith)
+refused-by (outcome.Refused r) b n x e = cc
 
 module _ (magic kind : ℕ) (s : List ℕ) where
   -- where the TLV stands in the tail
@@ -107,3 +113,41 @@ module _ (magic kind : ℕ) (s : List ℕ) where
       let d = absent-done (checkOf magic s) _ e in
       let f = absent-by (ltb place (length (tailOf s))) (fixedSize (typeOf s) + place + 4) (d .1) in
       rw (d .0, f)
+
+  -- what is found was found in an accepted message
+  found-done : {at : ℕ} → lookupOf magic kind s ≡ Found at → (checkOf magic s ≡ outcome.Done) × (fixedSize (typeOf s) + place + 4 ≡ at)
+  unfolding lookupOf place
+  found-done {at} e =
+      let d = not-refused (checkOf magic s) _ e in
+      (d .0, found-by (ltb place (length (tailOf s))) (fixedSize (typeOf s) + place + 4) (d .1) .1)
+
+  -- so its data begin inside the octets, behind a length
+  pub found-within : {x : TlvRead} → x ≡ lookupOf magic kind s → IsWithin x s
+  found-within {x} e = cases x (sym e)
+    where
+      cases : (x : TlvRead) → lookupOf magic kind s ≡ x → IsWithin x s
+      cases (Found at) e =
+          let d = found-done e in
+          let h = found-part e .inside-message in
+          let l = bounded magic s (d .0) .lent in
+          (omega (arith, d .1), omega (arith, h, l))
+      cases Absent e = tt
+      cases (Refused x) e = tt
+
+  refused : (x : Refusal) → lookupOf magic kind s ≡ Refused x → checkOf magic s ≡ outcome.Refused x
+  unfolding lookupOf
+  refused x e =
+      refused-by (checkOf magic s) (ltb (firstOfType kind (tailOf s)) (length (tailOf s))) (fixedSize (typeOf s) + firstOfType kind (tailOf s) + 4) x e
+
+  -- and that length is how many they are
+  pub data-length : {x : TlvRead} → x ≡ lookupOf magic kind s → dataLength x s ≡ length (dataIn magic kind s)
+  data-length {x} e = cases x (sym e)
+    where
+      cases : (x : TlvRead) → lookupOf magic kind s ≡ x → dataLength x s ≡ length (dataIn magic kind s)
+      cases (Found at) e =
+          let p = found-part e in
+          let h = p .inside-message in
+          let l = bounded magic s (found-done e .0) .lent in
+          rw (p .data-is) (simp (length-take, length-drop) (omega arith))
+      cases Absent e = rw (empty-absent e)
+      cases (Refused x) e = rw (empty-refused (refused x e))

@@ -1,4 +1,5 @@
 pub mod Fields
 pub mod Reading
 pub mod Parts
+pub mod Sound
 pub mod When

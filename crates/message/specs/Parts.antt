@@ -1,9 +1,10 @@
 -- Parts of a message, and the calls beside that say why one is empty (01, "Octets of a message").
-use Prim.Native.Nat.{ℕ, _+_, _≤_}
+use Prim.Native.Nat.{ℕ, _+_, _-_, _≤_}
 use mathlib.Core.List.{List, []}
 use mathlib.Core.Bool.{not}
 use lib.Dec.{eqb, ltb}
 use lib.ListN.{length}
+use Rattle.octets.specs.Be.{be}
 use Rattle.refusal.specs.Choice.{pick, refuse}
 use Rattle.refusal.specs.declared.Refusal.{Refusal}
 use Rattle.refusal.specs.declared.Refusal.the-variants.{«Type»}
@@ -51,6 +52,18 @@ lookupOf magic kind s =
     (pick (ltb (firstOfType kind (tailOf s)) (length (tailOf s)))
     (lookup.Found (fixedSize (typeOf s) + firstOfType kind (tailOf s) + 4))
     lookup.Absent)
+
+-- the data that were found begin inside the octets, behind a length
+abbrev pub IsWithin : TlvRead → List ℕ → Type 0
+IsWithin (lookup.Found at) s = (2 ≤ at) × (at ≤ length s)
+IsWithin lookup.Absent s = Unit {0}
+IsWithin (lookup.Refused x) s = Unit {0}
+
+-- "length L 2, L octets": how many they are
+abbrev pub dataLength : TlvRead → List ℕ → ℕ
+dataLength (lookup.Found at) s = be 2 s (at - 2)
+dataLength lookup.Absent s = 0
+dataLength (lookup.Refused x) s = 0
 
 abbrev pub suffixAnswer : Suffix → SuffixRead
 suffixAnswer (suffix.Flags n) = flags.Flags n

@@ -67,7 +67,7 @@ pub fn read_announce(s: &[u8], magic: u16) -> Announced
         return Announced::Refused(refusal_of(s, magic));
     }
     let t = &s[64..length];
-    let Sound::SuffixAt(p) = tlv::walk::sound_suffix(t, magic) else {
+    let Sound::FirstAt(p) = tlv::walk::sound_suffix(t, magic) else {
         return Announced::Refused(refusal_of(s, magic));
     };
     let flags = tlv::wr::wr_flags(tlv::wr::suffix_at(t, p));

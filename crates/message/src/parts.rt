@@ -6,12 +6,13 @@ ghost use mathlib.Core.Path.{_≡_};
 ghost use Prim.Native.Nat.{_≤_};
 ghost use lib.ListN.{length};
 ghost use Rattle.message.specs.Fields.{tailOf};
-ghost use Rattle.message.specs.Parts.{Bounded, tailIn, dataIn, lookupOf, suffixAnswer, suffixOf, linkAnswer, linkOf};
+ghost use Rattle.message.specs.Reading.{by};
+ghost use Rattle.message.specs.Parts.{Bounded, tailIn, dataIn, lookupOf, IsWithin, dataLength, suffixAnswer, suffixOf, linkAnswer, linkOf};
 use crate::fields::ANNOUNCE;
 use crate::fields::SIGNALING;
 use refusal::Outcome;
 use refusal::Refusal;
-use tlv::walk::Sought;
+use tlv::walk::Sound;
 use tlv::wr::LinkFound;
 use tlv::wr::LinkMessage;
 use tlv::wr::Suffix;
@@ -65,21 +66,46 @@ pub fn lookup(s: &[u8], kind: u16, magic: u16) -> &[u8]
     tlv::walk::data_of(t, kind)
 }
 
-// Why `lookup` hands back what it does.
+fn unread(x: Outcome) -> TlvRead
+    ensures { λ r. ⌜ r ≡ by x TlvRead.Refused TlvRead.Absent ⌝ }
+{
+    match x {
+        Outcome::Refused(y) => TlvRead::Refused(y),
+        Outcome::Done => TlvRead::Absent,
+    }
+}
+
+// Why `lookup` hands back what it does. A message in which nothing is wrong is walked over once; what is wrong with any
+// other is left to the checks.
 pub fn looked_up(s: &[u8], kind: u16, magic: u16) -> TlvRead
     ensures { λ r. ⌜ r ≡ lookupOf magic kind (now (s .entry)) ⌝ }
 {
-    match crate::reading::check(s, magic) {
-        Outcome::Refused(x) => TlvRead::Refused(x),
-        Outcome::Done => {
-            let t = checked_tail(s);
-            let p = tlv::walk::place(t, Sought::OfType(kind));
-            if p < t.len() {
-                TlvRead::Found(crate::fields::fixed_size(s[0] % 16) + p + 4)
-            } else {
-                TlvRead::Absent
-            }
-        }
+    let b = crate::sound::fixed_bounds(s);
+    let size = b.size;
+    let length = b.length;
+    if size == 0 {
+        return unread(crate::reading::check(s, magic));
+    }
+    let t = &s[size..length];
+    let Sound::FirstAt(p) = tlv::walk::sound_place(t, kind, magic) else {
+        return unread(crate::reading::check(s, magic));
+    };
+    if p < t.len() {
+        TlvRead::Found(size + p + 4)
+    } else {
+        TlvRead::Absent
+    }
+}
+
+// How many octets of data the TLV has that was found, read before them.
+pub fn data_length(s: &[u8], x: TlvRead) -> usize
+    requires { ⌜ IsWithin x (now s) ⌝ }
+    ensures { λ r. ⌜ r ≡ dataLength x (now (s .entry)) ⌝ }
+{
+    match x {
+        TlvRead::Found(at) => octets::held::u16_at(s, at - 2) as usize,
+        TlvRead::Absent => 0,
+        TlvRead::Refused(_) => 0,
     }
 }
 

@@ -18,7 +18,7 @@ pub enum Reading {
 }
 
 // Whether the octets carry a timestamp of 10^9 nanoseconds or more. A Signaling has an identity in that place.
-fn bad_stamp(s: &[u8], kind: u8) -> bool
+pub fn bad_stamp(s: &[u8], kind: u8) -> bool
     requires { ⌜ 44 ≤ length (now s) ⌝ }
     ensures { λ r. ⌜ r ≡ badStamp kind (now (s .entry)) ⌝ }
 {

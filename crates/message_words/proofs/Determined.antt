@@ -16,10 +16,6 @@ use Rattle.message_words.proofs.are_same.Reads as are-same
 use Rattle.message_words.proofs.are_same.Kinds as are-same-kinds
 use Rattle.message_words.proofs.is_whole.Reads as is-whole
 use Rattle.message_words.proofs.is_whole.Kinds as is-whole-kinds
-use Rattle.message_words.proofs.answers.put_read.Reads as put-read
-use Rattle.message_words.proofs.answers.put_read.Kinds as put-read-kinds
-use Rattle.message_words.proofs.answers.put_tail.Reads as put-tail
-use Rattle.message_words.proofs.answers.put_tail.Kinds as put-tail-kinds
 use Rattle.message_words.proofs.answers.put_tlv.Reads as put-tlv
 use Rattle.message_words.proofs.answers.put_tlv.Kinds as put-tlv-kinds
 use Rattle.message_words.proofs.answers.put_suffix.Reads as put-suffix
@@ -30,12 +26,16 @@ use Rattle.message_words.proofs.answers.put_link.Reads as put-link
 use Rattle.message_words.proofs.answers.put_link.Kinds as put-link-kinds
 use Rattle.message_words.proofs.answers.put_origin.Reads as put-origin
 use Rattle.message_words.proofs.answers.put_origin.Kinds as put-origin-kinds
+use Rattle.message_words.proofs.reading.put_message.Reads as put-message
+use Rattle.message_words.proofs.reading.put_message.Kinds as put-message-kinds
 use Rattle.message_words.proofs.writing.link_message_of.Reads as link-message-of
 use Rattle.message_words.proofs.writing.link_message_of.Kinds as link-message-of-kinds
 use Rattle.message_words.proofs.writing.is_link.Reads as is-link
 use Rattle.message_words.proofs.writing.is_link.Kinds as is-link-kinds
 use Rattle.message_words.proofs.writing.put_written.Reads as put-written
 use Rattle.message_words.proofs.writing.put_written.Kinds as put-written-kinds
+use Rattle.message_words.proofs.straight.write.Reads as straight-write
+use Rattle.message_words.proofs.straight.write.Kinds as straight-write-kinds
 
 module _ (κs : Lfts 0) (a : Dens κs message-words-kinds.ps) (x y : resT message-words-kinds.r κs .Denot) (e f : AtExit (endedOf 0 message-words-kinds.ps message-words-kinds.r) κs) where
   pub message-words-determined : message-words.Post κs a x e → message-words.Post κs a y f → x ≡ y
@@ -61,14 +61,6 @@ module _ (κs : Lfts 1) (a : Dens κs is-whole-kinds.ps) (x y : resT is-whole-ki
   pub is-whole-determined : is-whole.Post κs a x e → is-whole.Post κs a y f → x ≡ y
   is-whole-determined p q = p ∙ sym q
 
-module _ (κs : Lfts 1) (a : Dens κs put-read-kinds.ps) (x y : resT put-read-kinds.r κs .Denot) (e f : AtExit (endedOf 1 put-read-kinds.ps put-read-kinds.r) κs) where
-  pub put-read-determined : put-read.Post κs a x e → put-read.Post κs a y f → (x ≡ y) × (now (e .0) ≡ now (f .0))
-  put-read-determined p q = (p .0 ∙ sym (q .0), p .1 ∙ sym (q .1))
-
-module _ (κs : Lfts 1) (a : Dens κs put-tail-kinds.ps) (x y : resT put-tail-kinds.r κs .Denot) (e f : AtExit (endedOf 1 put-tail-kinds.ps put-tail-kinds.r) κs) where
-  pub put-tail-determined : put-tail.Post κs a x e → put-tail.Post κs a y f → now (e .0) ≡ now (f .0)
-  put-tail-determined p q = p ∙ sym q
-
 module _ (κs : Lfts 1) (a : Dens κs put-tlv-kinds.ps) (x y : resT put-tlv-kinds.r κs .Denot) (e f : AtExit (endedOf 1 put-tlv-kinds.ps put-tlv-kinds.r) κs) where
   pub put-tlv-determined : put-tlv.Post κs a x e → put-tlv.Post κs a y f → (x ≡ y) × (now (e .0) ≡ now (f .0))
   put-tlv-determined p q = (p .0 ∙ sym (q .0), p .1 ∙ sym (q .1))
@@ -86,8 +78,12 @@ module _ (κs : Lfts 1) (a : Dens κs put-link-kinds.ps) (x y : resT put-link-ki
   put-link-determined p q = (p .0 ∙ sym (q .0), p .1 ∙ sym (q .1))
 
 module _ (κs : Lfts 2) (a : Dens κs put-origin-kinds.ps) (x y : resT put-origin-kinds.r κs .Denot) (e f : AtExit (endedOf 2 put-origin-kinds.ps put-origin-kinds.r) κs) where
-  pub put-origin-determined : put-origin.Post κs a x e → put-origin.Post κs a y f → (x ≡ y) × (now (e .0) ≡ now (f .0))
-  put-origin-determined p q = (p .0 ∙ sym (q .0), p .1 ∙ sym (q .1))
+  pub put-origin-determined : put-origin.Post κs a x e → put-origin.Post κs a y f → now (e .0) ≡ now (f .0)
+  put-origin-determined p q = p ∙ sym q
+
+module _ (κs : Lfts 2) (a : Dens κs put-message-kinds.ps) (x y : resT put-message-kinds.r κs .Denot) (e f : AtExit (endedOf 2 put-message-kinds.ps put-message-kinds.r) κs) where
+  pub put-message-determined : put-message.Post κs a x e → put-message.Post κs a y f → now (e .0) ≡ now (f .0)
+  put-message-determined p q = p ∙ sym q
 
 module _ (κs : Lfts 1) (a : Dens κs link-message-of-kinds.ps) (x y : resT link-message-of-kinds.r κs .Denot) (e f : AtExit (endedOf 1 link-message-of-kinds.ps link-message-of-kinds.r) κs) where
   pub link-message-of-determined : link-message-of.Post κs a x e → link-message-of.Post κs a y f → x ≡ y
@@ -100,3 +96,7 @@ module _ (κs : Lfts 1) (a : Dens κs is-link-kinds.ps) (x y : resT is-link-kind
 module _ (κs : Lfts 1) (a : Dens κs put-written-kinds.ps) (x y : resT put-written-kinds.r κs .Denot) (e f : AtExit (endedOf 1 put-written-kinds.ps put-written-kinds.r) κs) where
   pub put-written-determined : put-written.Post κs a x e → put-written.Post κs a y f → (x ≡ y) × (now (e .0) ≡ now (f .0))
   put-written-determined p q = (p .0 ∙ sym (q .0), p .1 ∙ sym (q .1))
+
+module _ (κs : Lfts 3) (a : Dens κs straight-write-kinds.ps) (x y : resT straight-write-kinds.r κs .Denot) (e f : AtExit (endedOf 3 straight-write-kinds.ps straight-write-kinds.r) κs) where
+  pub straight-write-determined : straight-write.Post κs a x e → straight-write.Post κs a y f → (x ≡ y) × (now (e .0) ≡ now (f .0))
+  straight-write-determined p q = (p .0 ∙ sym (q .0), p .1 ∙ sym (q .1))

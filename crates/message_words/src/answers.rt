@@ -1,42 +1,14 @@
 // What reading answers, put into words that are lent: the number returned is 0, or that of the refusal, and then the words
 // are as they were.
 ghost use mathlib.Core.Path.{_≡_};
-ghost use Rattle.refusal.specs.Refusal.{codeOf};
-ghost use Rattle.message_words.specs.Answers.{readCode, readWords, tailWords, tlvCode, tlvWords, suffixCode, suffixWords, linkMessageWords, linkCode, linkWords, originWords};
+ghost use Prim.Native.Nat.{_≤_};
+ghost use lib.ListN.{length};
+ghost use Rattle.message_words.specs.Answers.{tlvCode, tlvWords, suffixCode, suffixWords, linkMessageWords, linkCode, linkWords};
+ghost use Rattle.message_words.specs.Reading.{stampWords};
 use message::parts::LinkRead;
 use message::parts::SuffixRead;
 use message::parts::TlvRead;
-use message::reading::Reading;
-use refusal::Outcome;
 use tlv::wr::LinkMessage;
-
-// A message read.
-pub fn put_read(out: &mut [u64; 20], x: Reading) -> u64
-    ensures answer { λ r. ⌜ r ≡ readCode x ⌝ }
-    ensures words { λ _. ⌜ now (out .exit) ≡ readWords x (now (out .entry)) ⌝ }
-{
-    match x {
-        Reading::Refused(y) => refusal::number(y),
-        Reading::Whole(m) => {
-            *out = crate::message_words(m);
-            0
-        }
-    }
-}
-
-// Where the tail of a message that was read begins, and how many octets it has.
-pub fn put_tail(out: &mut [u64; 2], x: Reading, length: usize)
-    ensures { λ _. ⌜ now (out .exit) ≡ tailWords x length (now (out .entry)) ⌝ }
-{
-    match x {
-        Reading::Refused(_) => {}
-        Reading::Whole(m) => {
-            let b = m.body;
-            let size = message::fields::fixed_size(layout::kind_of(b));
-            *out = [size as u64, length as u64];
-        }
-    }
-}
 
 // A TLV looked up: 1, where its data begin in the message and how many octets they are, or zeros.
 pub fn put_tlv(out: &mut [u64; 3], x: TlvRead, length: usize) -> u64
@@ -112,17 +84,11 @@ pub fn put_link(out: &mut [u64; 7], x: LinkRead) -> u64
 }
 
 // An origin time: the seconds and the nanoseconds of its ten octets.
-pub fn put_origin(out: &mut [u64; 2], x: Outcome, stamp: &[u8]) -> u64
-    ensures answer { λ r. ⌜ r ≡ codeOf x ⌝ }
-    ensures words { λ _. ⌜ now (out .exit) ≡ originWords x (now (stamp .entry)) (now (out .entry)) ⌝ }
+pub fn put_origin(out: &mut [u64; 2], stamp: &[u8])
+    requires { ⌜ 10 ≤ length (now stamp) ⌝ }
+    ensures { λ _. ⌜ now (out .exit) ≡ stampWords (now (stamp .entry)) ⌝ }
 {
-    match x {
-        Outcome::Refused(y) => refusal::number(y),
-        Outcome::Done => {
-            let seconds = octets::u48_at(stamp, 0);
-            let nanoseconds = octets::u32_at(stamp, 6);
-            *out = [seconds, nanoseconds as u64];
-            0
-        }
-    }
+    let seconds = octets::held::u48_at(stamp, 0);
+    let nanoseconds = octets::held::u32_at(stamp, 6);
+    *out = [seconds, nanoseconds as u64];
 }

@@ -7,7 +7,8 @@ ghost use mathlib.Core.Path.{_≡_};
 ghost use Prim.Native.Nat.{_+_, _≤_};
 ghost use lib.ListN.{length};
 ghost use Rattle.rank.specs.Order.{same};
-ghost use Rattle.message_words.specs.Words.{pairWords, announceWords, respWords, bodyWords, messageWords, stampOf, identityAt, headerOf, announceOf, bodyOf, messageOf, wordsFor, isWhole};
+ghost use Rattle.message_words.specs.Words.{pairWords, announceWords, respWords, bodyWords, messageWords, stampOf, identityAt, headerOf, announceOf, bodyOf, messageOf, isWhole};
+ghost use Rattle.message_words.specs.Fits.{signed8Fits, signed16Fits, signed64Fits, headerFits, stampFits, announceFits};
 use message::fields::Announce;
 use message::fields::Body;
 use message::fields::DelayResp;
@@ -17,6 +18,8 @@ use message::fields::PortIdentity;
 use message::fields::Timestamp;
 
 pub mod answers;
+pub mod reading;
+pub mod straight;
 pub mod writing;
 
 // Two numbers, and zeros.
@@ -214,23 +217,81 @@ pub fn are_same(a: &[u64], b: &[u64]) -> bool
     true
 }
 
-// How many words a message of a type has fields for. The words past them are not looked at.
-fn words_for(kind: u64) -> usize
-    ensures { λ r. ⌜ (r ≡ wordsFor kind) × (r ≤ 20) ⌝ }
+// Whether a word is a signed octet.
+fn signed8_fits(x: u64) -> bool
+    ensures { λ r. ⌜ r ≡ signed8Fits x ⌝ }
 {
-    match kind {
-        0x9 => 13,
-        0xB => 20,
-        _ => 11,
-    }
+    (x < 0x80) | (x >= 0xffff_ffff_ffff_ff80)
 }
 
-// Whether words are those of the message that is read out of them, each number within its field.
+// Whether a word is a signed number of two octets.
+fn signed16_fits(x: u64) -> bool
+    ensures { λ r. ⌜ r ≡ signed16Fits x ⌝ }
+{
+    (x < 0x8000) | (x >= 0xffff_ffff_ffff_8000)
+}
+
+// Whether a word is a signed number of eight octets: every word is.
+fn signed64_fits(x: u64) -> bool
+    ensures { λ r. ⌜ r ≡ signed64Fits x ⌝ }
+{
+    true
+}
+
+// The words of a header within their fields; any word is a correction or a clock.
+fn header_fits(w: &[u64; 20]) -> bool
+    ensures { λ r. ⌜ r ≡ headerFits (now (w .entry)) ⌝ }
+{
+    let correction = signed64_fits(w[4]);
+    let interval = signed8_fits(w[8]);
+    (w[1] < 256)
+        & (w[2] < 256)
+        & (w[3] < 65536)
+        & correction
+        & (w[6] < 65536)
+        & (w[7] < 65536)
+        & interval
+}
+
+// The nanoseconds of a timestamp within four octets.
+fn stamp_fits(w: &[u64; 20]) -> bool
+    ensures { λ r. ⌜ r ≡ stampFits (now (w .entry)) ⌝ }
+{
+    w[10] < 0x1_0000_0000
+}
+
+// The words of an Announce's body within their fields.
+fn announce_fits(w: &[u64; 20]) -> bool
+    ensures { λ r. ⌜ r ≡ announceFits (now (w .entry)) ⌝ }
+{
+    let stamp = stamp_fits(w);
+    let utc = signed16_fits(w[11]);
+    stamp
+        & utc
+        & (w[12] < 256)
+        & (w[13] < 256)
+        & (w[14] < 256)
+        & (w[15] < 65536)
+        & (w[16] < 256)
+        & (w[18] < 65536)
+        & (w[19] < 256)
+}
+
+// Whether words are those of the message that is read out of them, each number within its field. A type that is not listed has
+// none.
 pub fn is_whole(w: &[u64; 20]) -> bool
     ensures { λ r. ⌜ r ≡ isWhole (now (w .entry)) ⌝ }
 {
+    let header = header_fits(w);
     let all = &w[..];
-    let n = words_for(w[0]);
-    let own = message_words(message_of(w));
-    are_same(&own[0..n], &all[0..n])
+    let kind = all[0];
+    match kind {
+        0x0 => header & stamp_fits(w),
+        0x1 => header & stamp_fits(w),
+        0x8 => header & stamp_fits(w),
+        0x9 => header & stamp_fits(w) & (w[12] < 65536),
+        0xB => header & announce_fits(w),
+        0xC => header & (w[10] < 65536),
+        _ => false,
+    }
 }

@@ -1,9 +1,10 @@
 -- Origin time (01, "Octets of a message": "The origin time of a Sync is ..").
-use Prim.Native.Nat.{ℕ, _/_, _%_}
+use Prim.Native.Nat.{ℕ, _/_, _%_, _≤_}
+use mathlib.Core.Path.{_≡_}
 use mathlib.Core.List.{List, []}
-use mathlib.Core.Bool.{Bool, not, _&&_}
+use mathlib.Core.Bool.{Bool, true, not, _&&_}
 use lib.Dec.{eqb}
-use lib.ListN.{getD, take, drop}
+use lib.ListN.{length, getD, take, drop}
 use Rattle.refusal.specs.Choice.{pick, refuse}
 use Rattle.refusal.specs.declared.Refusal.the-variants.{«Type»}
 use Rattle.refusal.specs.declared.Outcome.{Outcome}
@@ -44,6 +45,11 @@ originCheck magic sync follow =
 -- the message that holds the origin time: "with the two-step bit .. its Follow_Up; without it, its own"
 abbrev pub holder : List ℕ → List ℕ → List ℕ
 holder sync follow = pick (isTwoStep sync) follow sync
+
+-- the messages that are looked at have their timestamps
+pub record Stamped (sync follow : List ℕ) : Type 0 where
+  pub own : 44 ≤ length sync
+  pub other : isTwoStep sync ≡ true → 44 ≤ length follow
 
 -- "At 34 stands a timestamp": "the ten timestamp octets"
 abbrev pub stampPart : List ℕ → List ℕ

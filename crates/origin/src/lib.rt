@@ -7,7 +7,7 @@
 ghost use mathlib.Core.Path.{_≡_};
 ghost use Prim.Native.Nat.{_≤_};
 ghost use lib.ListN.{length};
-ghost use Rattle.origin.specs.Origin.{isTwoStep, takesOf, follows, followCheck, originCheck, stampPart, originIn};
+ghost use Rattle.origin.specs.Origin.{isTwoStep, takesOf, follows, followCheck, originCheck, Stamped, stampPart, holder, originIn};
 use message::fields::FOLLOW_UP;
 use message::fields::SYNC;
 use refusal::Outcome;
@@ -90,18 +90,24 @@ fn stamp_part(s: &[u8]) -> &[u8]
     &s[34..44]
 }
 
+// The origin time of a Sync that was checked, and its Follow_Up with it where it is two-step.
+pub fn checked_origin<'a>(sync: &'a [u8], follow: &'a [u8]) -> &'a [u8]
+    requires { ⌜ Stamped (now sync) (now follow) ⌝ }
+    ensures { λ r. ⌜ now r ≡ stampPart (holder (now (sync .entry)) (now (follow .entry))) ⌝ }
+{
+    if is_two_step(sync) {
+        stamp_part(follow)
+    } else {
+        stamp_part(sync)
+    }
+}
+
 // The origin time of a Sync, as a part of the Sync or of its Follow_Up.
 pub fn origin<'a>(sync: &'a [u8], follow: &'a [u8], magic: u16) -> &'a [u8]
     ensures { λ r. ⌜ now r ≡ originIn magic (now (sync .entry)) (now (follow .entry)) ⌝ }
 {
     match origin_says(sync, follow, magic) {
         Outcome::Refused(_) => &sync[..0],
-        Outcome::Done => {
-            if is_two_step(sync) {
-                stamp_part(follow)
-            } else {
-                stamp_part(sync)
-            }
-        }
+        Outcome::Done => checked_origin(sync, follow),
     }
 }

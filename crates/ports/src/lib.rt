@@ -1,5 +1,6 @@
 // Eighteen ports' records in 1764 words that the host lends, 98 a port: `intake` takes an Announce from octets, `asking` gives a port's
-// candidates, its best and what it keeps, `interval` is the announce interval as a setting. Words of zero are a fresh
+// candidates, its best and what it keeps, `interval` is the announce interval as a setting, `places` tells of candidates by where they
+// lie. Words of zero are a fresh
 // clock, and any words have an answer. A port's words are lent on as a part, so that a call never reaches another port's.
 ghost use mathlib.Core.Path.{_≡_};
 ghost use mathlib.Core.Bool.{true};
@@ -9,6 +10,7 @@ ghost use Rattle.rank.specs.Ranked.{isPort};
 pub mod asking;
 pub mod intake;
 pub mod interval;
+pub mod places;
 
 // Where the words of a port begin.
 fn start(port: u8) -> usize

@@ -2,7 +2,7 @@
 use mathlib.Core.Path.{_≡_, refl, sym, ap, _∙_}
 use mathlib.Core.Bool.{Bool, true, false, _&&_}
 use mathlib.Core.List.{List, [], _∷_, map}
-use Prim.Native.Nat.{ℕ, suc, _+_, _*_, _≤_, _<_}
+use Prim.Native.Nat.{ℕ, zero, suc, _+_, _-_, _*_, _≤_, _<_}
 use native.Mathlib.Omega.{arith}
 use lib.Dec.{ltb}
 use lib.ListN.{length, getD, take, drop}
@@ -24,6 +24,7 @@ use Rattle.senders.specs.Record.{windowOf, isOf, isFree, isQualified, candidate
 use Rattle.senders.specs.Port.{Port, emptySlot, slotOf, tab, first, kept, knownOf, newOf, planOf, askedOf, candidateIn, candidatesOf, bestOf, headOf}
 use Rattle.slots.specs.declared.Seen.the-variants.{Empty, Held}
 use Rattle.slots.specs.Words.{recordOf, slotAt, slotsOf, portOf, seenIn, candidateAt, aheadIn, outdoesIn, bestIn}
+use Rattle.slots.specs.Places.{slotAmong}
 use Rattle.slots.proofs.Laws.{length-tab, getD-tab, getD-past}
 use Rattle.slots.proofs.Order.{earlier-words}
 
@@ -124,7 +125,7 @@ turned A i b c d false x y ai ab e = refl
 abbrev pub Words64 : List ℕ → Type 0
 Words64 ws = (k : ℕ) → getD ws k 0 < 0x10000000000000000
 
-grade-word : (ws : List ℕ) (c : ℕ) → Words64 ws → getD (take 6 (drop c ws)) 5 0 < 0x10000000000000000
+pub grade-word : (ws : List ℕ) (c : ℕ) → Words64 ws → getD (take 6 (drop c ws)) 5 0 < 0x10000000000000000
 grade-word ws c words = let e = getD-take 6 (drop c ws) 5 0 (omega arith) ∙ getD-drop c ws 5 0 in rw e (words (c + 5))
 
 ahead-is : (port : ℕ) (ws : List ℕ) (i b : ℕ) → Words64 ws → aheadIn ws i b ≡ earlierOf (candidateOf port (slotAt ws i)) (candidateOf port (slotAt ws b))
@@ -153,6 +154,17 @@ module _ (port : ℕ) (ws : List ℕ) (words : Words64 ws) (w t i b : ℕ) (h : 
 pub best-start : (port : ℕ) (ws : List ℕ) (w t : ℕ) → candidateAt port ws 16 ≡ bestIn port w t (drop 16 (slotsOf ws))
 unfolding bestIn kept tab
 best-start port ws w t = refl
+
+-- so that the slot among the last n is that of the best of them
+pub best-among : (port : ℕ) (ws : List ℕ) → Words64 ws → (w t n : ℕ) → n ≤ 16
+    → candidateAt port ws (slotAmong ws w t n) ≡ bestIn port w t (drop (16 - n) (slotsOf ws))
+unfolding slotAmong
+best-among port ws words w t zero h = best-start port ws w t
+best-among port ws words w t (suc n) h =
+    let e : 16 - n ≡ suc (15 - n) = omega arith in
+    let f : 16 - suc n ≡ 15 - n = omega arith in
+    best-turn port ws words w t (15 - n) (slotAmong ws w t n) (omega arith) _ (16 - n) refl e (best-among port ws words w t n (omega arith))
+    ∙ ap (λ (k : ℕ). bestIn port w t (drop k (slotsOf ws))) (sym f)
 
 module _ (port : ℕ) (ws : List ℕ) (w t b : ℕ) (ew : w ≡ windowOf (portOf ws .e)) (is : candidateAt port ws b ≡ bestIn port w t (slotsOf ws)) where
   its : candidateAt port ws b ≡ bestOf port (portOf ws) t

@@ -12,6 +12,12 @@ use Rattle.slots.proofs.candidate.Reads as candidate
 use Rattle.slots.proofs.candidate.Kinds as candidate-kinds
 use Rattle.slots.proofs.best.Reads as best
 use Rattle.slots.proofs.best.Kinds as best-kinds
+use Rattle.slots.proofs.read.Reads as read
+use Rattle.slots.proofs.read.Kinds as read-kinds
+use Rattle.slots.proofs.place.Reads as place
+use Rattle.slots.proofs.place.Kinds as place-kinds
+use Rattle.slots.proofs.comes_before.Reads as comes-before
+use Rattle.slots.proofs.comes_before.Kinds as comes-before-kinds
 use Rattle.slots.proofs.last.Reads as last
 use Rattle.slots.proofs.last.Kinds as last-kinds
 use Rattle.slots.proofs.exponent.Reads as exponent
@@ -46,3 +52,15 @@ module _ (κs : Lfts 1) (a : Dens κs exponent-kinds.ps) (x y : resT exponent-ki
 module _ (κs : Lfts 1) (a : Dens κs set-exponent-kinds.ps) (x y : resT set-exponent-kinds.r κs .Denot) (e f : AtExit (endedOf 1 set-exponent-kinds.ps set-exponent-kinds.r) κs) where
   pub set-exponent-determined : set-exponent.Post κs a x e → set-exponent.Post κs a y f → now (e .0) ≡ now (f .0)
   set-exponent-determined p q = p ∙ sym q
+
+module _ (κs : Lfts 1) (a : Dens κs read-kinds.ps) (x y : resT read-kinds.r κs .Denot) (e f : AtExit (endedOf 1 read-kinds.ps read-kinds.r) κs) where
+  pub read-determined : read.Post κs a x e → read.Post κs a y f → x ≡ y
+  read-determined p q = p ∙ sym q
+
+module _ (κs : Lfts 1) (a : Dens κs place-kinds.ps) (x y : resT place-kinds.r κs .Denot) (e f : AtExit (endedOf 1 place-kinds.ps place-kinds.r) κs) where
+  pub place-determined : place.Post κs a x e → place.Post κs a y f → x ≡ y
+  place-determined p q = p ∙ sym q
+
+module _ (κs : Lfts 2) (a : Dens κs comes-before-kinds.ps) (x y : resT comes-before-kinds.r κs .Denot) (e f : AtExit (endedOf 2 comes-before-kinds.ps comes-before-kinds.r) κs) where
+  pub comes-before-determined : comes-before.Post κs a x e → comes-before.Post κs a y f → x ≡ y
+  comes-before-determined p q = p ∙ sym q

@@ -3,4 +3,5 @@ pub mod Cases
 pub mod Places
 pub mod Meaning
 pub mod Order
+pub mod Begins
 pub mod Determined

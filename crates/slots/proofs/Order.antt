@@ -12,6 +12,7 @@ use Rattle.refusal.specs.Choice.{pick}
 use Rattle.rank.specs.Order.{earlierOf}
 use Rattle.senders.specs.Record.{candidateOf}
 use Rattle.slots.specs.Words.{ofSix, beforeIn}
+use Rattle.slots.specs.Places.{aboveIn}
 use Rattle.slots.proofs.Meaning.{ne-split}
 
 -- one key: equal, lower or higher
@@ -117,4 +118,27 @@ earlier-words port a b ha hb =
     (ltb (getD a 4 0) (getD b 4 0)) in
     ap (λ (z : Bool). pick (eqb (x / 0x10000) (y / 0x10000)) (K z) (ltb (x / 0x10000) (y / 0x10000)))
     (sym (one-port port (getD a 1 0 / 0x100000000 % 0x10000) (getD b 1 0 / 0x100000000 % 0x10000)))
+    ∙ sym (five-one x y ha hb (K _))
+
+-- two ports, the second lower: it stands first where all before it is equal
+two-ports : (p q a b x y : ℕ) → q < p → pick (eqb a b) (pick (eqb p q) (pick (eqb x y) false (ltb x y)) (ltb p q)) (ltb a b) ≡ ltb a b
+two-ports p q a b x y h = rw (ne-eqb p q (λ e. omega arith), le-ltb p q (omega arith)) (last-key a b)
+
+-- RANK ORDER OF A RECORD ON ONE PORT AND A RECORD ON A PORT BELOW IT IS THAT OF THE KEYS BEFORE THE PORT
+pub above-words : (p q : ℕ) (a b : List ℕ) → q < p → getD a 5 0 < 0x10000000000000000 → getD b 5 0 < 0x10000000000000000
+    → aboveIn a b ≡ earlierOf (candidateOf p (ofSix a)) (candidateOf q (ofSix b))
+above-words p q a b h ha hb =
+    let x = getD a 5 0 in
+    let y = getD b 5 0 in
+    let K : Bool → Bool =
+    λ z.
+    pick (eqb (getD a 4 0) (getD b 4 0))
+    (pick (eqb (x % 0x10000) (y % 0x10000))
+    (pick (eqb (getD a 0 0) (getD b 0 0))
+    z
+    (ltb (getD a 0 0) (getD b 0 0)))
+    (ltb (x % 0x10000) (y % 0x10000)))
+    (ltb (getD a 4 0) (getD b 4 0)) in
+    ap (λ (z : Bool). pick (eqb (x / 0x10000) (y / 0x10000)) (K z) (ltb (x / 0x10000) (y / 0x10000)))
+    (sym (two-ports p q (getD a 1 0 % 0x10000) (getD b 1 0 % 0x10000) (getD a 1 0 / 0x100000000 % 0x10000) (getD b 1 0 / 0x100000000 % 0x10000) h))
     ∙ sym (five-one x y ha hb (K _))

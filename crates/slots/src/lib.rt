@@ -6,10 +6,11 @@
 // changes; an Announce that is taken writes one record and the time. Reading messages, and which port's words these
 // are, is left to those above.
 ghost use mathlib.Core.Path.{_≡_};
-ghost use Prim.Native.Nat.{ℕ, _<_};
+ghost use Prim.Native.Nat.{_<_};
 ghost use lib.ListN.{length, set};
 ghost use Rattle.senders.specs.Port.{first, planOf, outcomeOf, askedOf, candidateIn, bestOf};
-ghost use Rattle.slots.specs.Words.{ofSix, sixOf, idWord, gradeWord, slotAt, slotsOf, portOf, putSlot, wordsAfter, soughtIn, seenIn, candidateAt, beforeIn, laterIn, aheadIn, outdoesIn, bestIn};
+ghost use Rattle.slots.specs.Words.{ofSix, sixOf, idWord, gradeWord, slotAt, slotsOf, portOf, putSlot, wordsAfter, soughtIn, seenIn, beforeIn, laterIn, aheadIn, outdoesIn};
+ghost use Rattle.slots.specs.Places.{slotAmong, placeIn, aboveIn};
 use rank::Grandmaster;
 use rank::PortIdentity;
 use refusal::Outcome;
@@ -33,7 +34,7 @@ pub enum Seen {
 }
 
 // The record in a slot's six words.
-fn read(s: &[u64]) -> Record
+pub fn read(s: &[u64]) -> Record
     requires { ⌜ length (now s) ≡ 6 ⌝ }
     ensures { λ r. ⌜ r ≡ ofSix (now (s .entry)) ⌝ }
 {
@@ -131,14 +132,30 @@ fn is_sought(r: Record, x: Sought) -> bool
     }
 }
 
-// The lowest slot whose record is what is looked for, or 16.
-fn find(ws: &[u64], x: Sought) -> usize
+// The lowest slot whose record is a sender's, or 16. This and the next are one search in two functions: each has one caller
+// then, and is made one piece with it.
+fn find_of(ws: &[u64], sender: PortIdentity) -> usize
     requires { ⌜ length (now ws) ≡ 98 ⌝ }
-    ensures { λ r. ⌜ r ≡ first (soughtIn x) (slotsOf (now (ws .entry))) ⌝ }
+    ensures { λ r. ⌜ r ≡ first (soughtIn (Sought.Of sender)) (slotsOf (now (ws .entry))) ⌝ }
 {
     let mut i = 0;
     while i < SLOTS {
-        if is_sought(load(ws, i), x) {
+        if is_sought(load(ws, i), Sought::Of(sender)) {
+            return i;
+        }
+        i += 1;
+    }
+    i
+}
+
+// The lowest slot that is empty or expired, or 16.
+fn find_free(ws: &[u64], w: u64, t: u64) -> usize
+    requires { ⌜ length (now ws) ≡ 98 ⌝ }
+    ensures { λ r. ⌜ r ≡ first (soughtIn (Sought.Free w t)) (slotsOf (now (ws .entry))) ⌝ }
+{
+    let mut i = 0;
+    while i < SLOTS {
+        if is_sought(load(ws, i), Sought::Free(w, t)) {
             return i;
         }
         i += 1;
@@ -156,11 +173,11 @@ fn plan(ws: &[u64], t: u64, a: Notice) -> Plan
     }
     let w = senders::window(ws[1]);
     let sender = a.sender;
-    let i = find(ws, Sought::Of(sender));
+    let i = find_of(ws, sender);
     if i < SLOTS {
         return senders::known(load(ws, i), i, w, t, a);
     }
-    senders::unknown(find(ws, Sought::Free(w, t)), t, a)
+    senders::unknown(find_free(ws, w, t), t, a)
 }
 
 // Takes an Announce at `t`, or refuses it.
@@ -271,7 +288,7 @@ fn outdoes(ws: &[u64], i: usize, b: usize, w: u64, t: u64) -> bool
 // The slot of the best candidate at `t`, or 16; from the last slot to the first.
 fn best_slot(ws: &[u64], w: u64, t: u64) -> usize
     requires { ⌜ length (now ws) ≡ 98 ⌝ }
-    ensures { λ r. ⌜ ((port : ℕ) → candidateAt port (now (ws .entry)) r ≡ bestIn port w t (slotsOf (now (ws .entry)))) ⌝ }
+    ensures { λ r. ⌜ r ≡ slotAmong (now (ws .entry)) w t 16 ⌝ }
 {
     let mut b = SLOTS;
     let mut i = SLOTS;
@@ -297,6 +314,41 @@ pub fn best(ws: &[u64], port: u8, t: u64) -> Asked
         return Asked::Found(senders::candidate(load(ws, b), port));
     }
     Asked::Absent
+}
+
+// Where the record of the best candidate at `t` begins in the port's words, or 0 where there is none.
+pub fn place(ws: &[u64], t: u64) -> usize
+    requires { ⌜ length (now ws) ≡ 98 ⌝ }
+    ensures { λ r. ⌜ r ≡ placeIn (now (ws .entry)) t ⌝ }
+{
+    let b = best_slot(ws, senders::window(ws[1]), t);
+    if b < SLOTS {
+        return 2 + 6 * b;
+    }
+    0
+}
+
+// Whether the record of six words stands before that of six others by the keys that come before the port. Where the
+// others are of a port with a lower number, this is rank order.
+pub fn comes_before(a: &[u64], b: &[u64]) -> bool
+    requires { ⌜ (length (now a) ≡ 6) × (length (now b) ≡ 6) ⌝ }
+    ensures { λ r. ⌜ r ≡ aboveIn (now (a .entry)) (now (b .entry)) ⌝ }
+{
+    let x = a[5];
+    let y = b[5];
+    if x / 0x10000 != y / 0x10000 {
+        return x / 0x10000 < y / 0x10000;
+    }
+    if a[4] != b[4] {
+        return a[4] < b[4];
+    }
+    if x % 0x10000 != y % 0x10000 {
+        return x % 0x10000 < y % 0x10000;
+    }
+    if a[0] != b[0] {
+        return a[0] < b[0];
+    }
+    a[1] % 0x10000 < b[1] % 0x10000
 }
 
 // The last accepted time.

@@ -23,6 +23,10 @@ use Rattle.tlv.proofs.walk.data_of.Reads as walk-data-of
 use Rattle.tlv.proofs.walk.data_of.Kinds as walk-data-of-kinds
 use Rattle.tlv.proofs.walk.first_fault.Reads as walk-first-fault
 use Rattle.tlv.proofs.walk.first_fault.Kinds as walk-first-fault-kinds
+use Rattle.tlv.proofs.walk.is_sound.Reads as walk-is-sound
+use Rattle.tlv.proofs.walk.is_sound.Kinds as walk-is-sound-kinds
+use Rattle.tlv.proofs.walk.sound_place.Reads as walk-sound-place
+use Rattle.tlv.proofs.walk.sound_place.Kinds as walk-sound-place-kinds
 use Rattle.tlv.proofs.walk.sound_suffix.Reads as walk-sound-suffix
 use Rattle.tlv.proofs.walk.sound_suffix.Kinds as walk-sound-suffix-kinds
 use Rattle.tlv.proofs.walk.check.Reads as walk-check
@@ -80,6 +84,16 @@ module _ (κs : Lfts 1) (a : Dens κs walk-first-fault-kinds.ps) (x y : resT wal
     (e f : AtExit (endedOf 1 walk-first-fault-kinds.ps walk-first-fault-kinds.r) κs) where
   pub walk-first-fault-determined : walk-first-fault.Post κs a x e → walk-first-fault.Post κs a y f → x ≡ y
   walk-first-fault-determined p q = p ∙ sym q
+
+module _ (κs : Lfts 1) (a : Dens κs walk-is-sound-kinds.ps) (x y : resT walk-is-sound-kinds.r κs .Denot)
+    (e f : AtExit (endedOf 1 walk-is-sound-kinds.ps walk-is-sound-kinds.r) κs) where
+  pub walk-is-sound-determined : walk-is-sound.Post κs a x e → walk-is-sound.Post κs a y f → x ≡ y
+  walk-is-sound-determined p q = p ∙ sym q
+
+module _ (κs : Lfts 1) (a : Dens κs walk-sound-place-kinds.ps) (x y : resT walk-sound-place-kinds.r κs .Denot)
+    (e f : AtExit (endedOf 1 walk-sound-place-kinds.ps walk-sound-place-kinds.r) κs) where
+  pub walk-sound-place-determined : walk-sound-place.Post κs a x e → walk-sound-place.Post κs a y f → x ≡ y
+  walk-sound-place-determined p q = p ∙ sym q
 
 module _ (κs : Lfts 1) (a : Dens κs walk-sound-suffix-kinds.ps) (x y : resT walk-sound-suffix-kinds.r κs .Denot)
     (e f : AtExit (endedOf 1 walk-sound-suffix-kinds.ps walk-sound-suffix-kinds.r) κs) where

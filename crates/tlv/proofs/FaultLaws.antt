@@ -2,7 +2,7 @@
 use Prim.Native.Nat.{ℕ, _<_, _≤_}
 use mathlib.Core.Path.{_≡_, refl, sym, _∙_}
 use mathlib.Core.List.{List}
-use mathlib.Core.Bool.{Bool, true, false}
+use mathlib.Core.Bool.{Bool, true, false, _&&_}
 use native.Mathlib.Omega.{arith}
 use borrow.Author.Tests.{lt-ltb, ltb-false, ne-eqb}
 use lib.Dec.{eqb, ltb}
@@ -11,11 +11,11 @@ use Rattle.refusal.specs.Choice.{pick, refuse}
 use Rattle.refusal.specs.declared.Refusal.{Refusal}
 use Rattle.refusal.specs.declared.Outcome.the-variants.{Done, Refused}
 use Rattle.tlv.specs.Walk.{sizeAt, nextOf, broken, first}
-use Rattle.tlv.specs.Form.{numbered, misfitBy, misfitAt, suffixAt}
-use Rattle.tlv.specs.Faults.{soughtAt, whole, misfit, laterOf, faultOf, soundOf, tailCheck, outcomeOf}
+use Rattle.tlv.specs.Form.{numbered, misfitBy, misfitAt}
+use Rattle.tlv.specs.Faults.{soughtAt, whole, misfit, laterOf, faultOf, isSound, soundOf, tailCheck, outcomeOf}
 use Rattle.tlv.specs.declared.form.Numbered.{Numbered}
 use Rattle.tlv.specs.declared.walk.Sought.{Sought}
-use Rattle.tlv.specs.declared.walk.Sound.the-variants.{SuffixAt, Faulty}
+use Rattle.tlv.specs.declared.walk.Sound.the-variants.{FirstAt, Faulty}
 use Rattle.tlv.specs.declared.walk.Next.the-variants.{At}
 use Rattle.tlv.specs.declared.walk.Fault.the-variants.{Sound, Broken, Misfit}
 use Rattle.tlv.proofs.WalkLaws.{walk-more, Found, first-found}
@@ -65,8 +65,15 @@ pub either : {A : Type 0} (b : Bool) (x : A) → pick b x x ≡ x
 either true x = refl
 either false x = refl
 
-no-place : {p : ℕ} → Faulty ≡ SuffixAt p → ⊥
+pub and-false : (b : Bool) → (b && false) ≡ false
+and-false true = refl
+and-false false = refl
+
+no-place : {p : ℕ} → Faulty ≡ FirstAt p → ⊥
 no-place e = let z : _≡_ {A = ℕ} 0 1 = cc in omega arith
+
+no-truth : _≡_ {A = Bool} false true → ⊥
+no-truth e = let z : _≡_ {A = ℕ} 0 1 = cc in omega arith
 
 no-refusal : {x : Refusal} → Refused x ≡ Done → ⊥
 no-refusal e = let z : _≡_ {A = ℕ} 0 1 = cc in omega arith
@@ -89,23 +96,43 @@ told-check magic t = by (whole t) (eqb (misfit magic t 0) (length t)) refl refl
     by true false ea eb = simp (ea, eb)
     by false b ea eb = simp ea
 
--- a tail in which nothing is wrong passes the checks, and the place told is that of its first suffix; any other does not
+-- a tail in which nothing is wrong passes the checks; any other does not
 module _ (magic : ℕ) (t : List ℕ) where
-  pub sound-check : {p : ℕ} → soundOf magic t ≡ SuffixAt p → (tailCheck magic t ≡ Done) × (p ≡ first (suffixAt magic t) t 0)
+  pub is-sound-check : isSound magic t ≡ true → tailCheck magic t ≡ Done
+  unfolding isSound tailCheck refuse
+  is-sound-check = by (whole t) (eqb (misfit magic t 0) (length t)) refl refl
+    where
+      by : (a b : Bool) → whole t ≡ a → eqb (misfit magic t 0) (length t) ≡ b → isSound magic t ≡ true → tailCheck magic t ≡ Done
+      by true true ea eb e = rw (ea, eb)
+      by true false ea eb e = absurd (no-truth (rw (ea, eb) at e))
+      by false b ea eb e = absurd (no-truth (rw ea at e))
+
+  pub unsound-check : isSound magic t ≡ false → tailCheck magic t ≡ Done → ⊥
+  unfolding isSound tailCheck refuse
+  unsound-check = by (whole t) (eqb (misfit magic t 0) (length t)) refl refl
+    where
+      by : (a b : Bool) → whole t ≡ a → eqb (misfit magic t 0) (length t) ≡ b → isSound magic t ≡ false → tailCheck magic t ≡ Done → ⊥
+      by true true ea eb e d = no-truth (sym (rw (ea, eb) at e))
+      by true false ea eb e d = no-refusal (rw (ea, eb) at d)
+      by false b ea eb e d = no-refusal (rw ea at d)
+
+-- and the place told is that of the first TLV that passes the test
+module _ (magic : ℕ) (test : ℕ → Bool) (t : List ℕ) where
+  pub sound-check : {p : ℕ} → soundOf magic test t ≡ FirstAt p → (tailCheck magic t ≡ Done) × (p ≡ first test t 0)
   unfolding soundOf tailCheck refuse
   sound-check {p} = by (whole t) (eqb (misfit magic t 0) (length t)) refl refl
     where
       by : (a b : Bool) → whole t ≡ a → eqb (misfit magic t 0) (length t) ≡ b
-          → soundOf magic t ≡ SuffixAt p → (tailCheck magic t ≡ Done) × (p ≡ first (suffixAt magic t) t 0)
-      by true true ea eb e = (rw (ea, eb), let k : SuffixAt (first (suffixAt magic t) t 0) ≡ SuffixAt p = rw (ea, eb) at e in cc)
+          → soundOf magic test t ≡ FirstAt p → (tailCheck magic t ≡ Done) × (p ≡ first test t 0)
+      by true true ea eb e = (rw (ea, eb), let k : FirstAt (first test t 0) ≡ FirstAt p = rw (ea, eb) at e in cc)
       by true false ea eb e = absurd (no-place (rw (ea, eb) at e))
       by false b ea eb e = absurd (no-place (rw ea at e))
 
-  pub faulty-check : soundOf magic t ≡ Faulty → tailCheck magic t ≡ Done → ⊥
+  pub faulty-check : soundOf magic test t ≡ Faulty → tailCheck magic t ≡ Done → ⊥
   unfolding soundOf tailCheck refuse
   faulty-check = by (whole t) (eqb (misfit magic t 0) (length t)) refl refl
     where
-      by : (a b : Bool) → whole t ≡ a → eqb (misfit magic t 0) (length t) ≡ b → soundOf magic t ≡ Faulty → tailCheck magic t ≡ Done → ⊥
+      by : (a b : Bool) → whole t ≡ a → eqb (misfit magic t 0) (length t) ≡ b → soundOf magic test t ≡ Faulty → tailCheck magic t ≡ Done → ⊥
       by true true ea eb e d = no-place (sym (rw (ea, eb) at e))
       by true false ea eb e d = no-refusal (rw (ea, eb) at d)
       by false b ea eb e d = no-refusal (rw ea at d)

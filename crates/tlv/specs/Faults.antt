@@ -1,7 +1,7 @@
 -- What a walk looks for, and the faults of a tail (01, "Numbers that refuse", 6 and 7).
 use Prim.Native.Nat.{ℕ}
 use mathlib.Core.List.{List}
-use mathlib.Core.Bool.{Bool, not}
+use mathlib.Core.Bool.{Bool, not, _&&_}
 use lib.ListN.{length}
 use lib.Dec.{eqb, ltb}
 use Rattle.refusal.specs.Choice.{pick, refuse}
@@ -15,7 +15,7 @@ use Rattle.tlv.specs.declared.walk.Sought.the-variants.{OfType, Suffix, 
 use Rattle.tlv.specs.declared.walk.Fault.{Fault}
 use Rattle.tlv.specs.declared.walk.Fault.the-variants as fault
 use Rattle.tlv.specs.declared.walk.Sound.{Sound}
-use Rattle.tlv.specs.declared.walk.Sound.the-variants.{SuffixAt, Faulty}
+use Rattle.tlv.specs.declared.walk.Sound.the-variants.{FirstAt, Faulty}
 
 -- what a walk looks for
 abbrev pub soughtAt : Sought → List ℕ → ℕ → Bool
@@ -50,11 +50,15 @@ outcomeOf fault.Sound = Done
 outcomeOf (fault.Broken p) = Refused Tlv
 outcomeOf (fault.Misfit p) = Refused WrBad
 
--- where the first suffix stands of a tail in which nothing is wrong
-unfoldable pub soundOf : ℕ → List ℕ → Sound
-soundOf magic t =
+-- nothing is wrong with a tail
+unfoldable pub isSound : ℕ → List ℕ → Bool
+isSound magic t = whole t && eqb (misfit magic t 0) (length t)
+
+-- where the first TLV that passes a test stands in such a tail
+unfoldable pub soundOf : ℕ → (ℕ → Bool) → List ℕ → Sound
+soundOf magic test t =
     pick (whole t)
-    (pick (eqb (misfit magic t 0) (length t)) (SuffixAt (first (suffixAt magic t) t 0)) Faulty)
+    (pick (eqb (misfit magic t 0) (length t)) (FirstAt (first test t 0)) Faulty)
     Faulty
 
 -- the first place so far that passed a test, with p looked at too

@@ -3,7 +3,8 @@ ghost use mathlib.Core.Path.{_≡_};
 ghost use Prim.Native.Nat.{_≤_};
 ghost use lib.ListN.{length};
 ghost use Rattle.tlv.specs.Walk.{nextOf, first, dataAt, Fits};
-ghost use Rattle.tlv.specs.Faults.{soughtAt, laterOf, faultOf, soundOf, tailCheck, outcomeOf};
+ghost use Rattle.tlv.specs.Form.{suffixAt};
+ghost use Rattle.tlv.specs.Faults.{soughtAt, laterOf, faultOf, isSound, soundOf, tailCheck, outcomeOf};
 use crate::form;
 use refusal::Outcome;
 use refusal::Refusal;
@@ -29,9 +30,10 @@ pub enum Fault {
     Misfit(usize),
 }
 
-// Where the first suffix of a tail stands in which nothing is wrong, its end where it has none; or that something is.
+// Where the first TLV that is looked for stands in a tail in which nothing is wrong, its end where it has none; or that
+// something is.
 pub enum Sound {
-    SuffixAt(usize),
+    FirstAt(usize),
     Faulty,
 }
 
@@ -129,10 +131,51 @@ pub fn first_fault(t: &[u8], magic: u16) -> Fault
     Fault::Sound
 }
 
-// The walk of a reader that hopes for a sound tail: it ends at the first thing that is wrong, and does not say what. That
-// a TLV is a suffix is settled before `later` is asked: the compiler then looks at the number once, for this and the size.
+// Whether nothing is wrong with a tail. This and the two walks below are for a reader that hopes so: they end at the first
+// thing that is wrong, and do not say what. Each has one caller and is made one piece with it.
+pub fn is_sound(t: &[u8], magic: u16) -> bool
+    ensures { λ r. ⌜ r ≡ isSound magic (now (t .entry)) ⌝ }
+{
+    let mut at: usize = 0;
+    while at < t.len() {
+        let Next::At(p) = step(t, at) else {
+            return false;
+        };
+        let l = p - at - 4;
+        let x = form::number_at(t, at, l, magic);
+        if form::misfits(x, l) {
+            return false;
+        }
+        at = p;
+    }
+    true
+}
+
+// Where the first TLV of a type stands in a sound tail.
+pub fn sound_place(t: &[u8], kind: u16, magic: u16) -> Sound
+    ensures { λ r. ⌜ r ≡ soundOf magic (soughtAt (Sought.OfType kind) (now (t .entry))) (now (t .entry)) ⌝ }
+{
+    let mut found = t.len();
+    let mut at: usize = 0;
+    while at < t.len() {
+        let Next::At(p) = step(t, at) else {
+            return Sound::Faulty;
+        };
+        let l = p - at - 4;
+        let x = form::number_at(t, at, l, magic);
+        if form::misfits(x, l) {
+            return Sound::Faulty;
+        }
+        found = later(t.len(), found, at, octets::held::u16_at(t, at) == kind);
+        at = p;
+    }
+    Sound::FirstAt(found)
+}
+
+// Where the first suffix stands in a sound tail. That a TLV is a suffix is settled before `later` is asked: the compiler
+// then looks at the number once, for this and the size.
 pub fn sound_suffix(t: &[u8], magic: u16) -> Sound
-    ensures { λ r. ⌜ r ≡ soundOf magic (now (t .entry)) ⌝ }
+    ensures { λ r. ⌜ r ≡ soundOf magic (suffixAt magic (now (t .entry))) (now (t .entry)) ⌝ }
 {
     let mut suffix = t.len();
     let mut at: usize = 0;
@@ -150,7 +193,7 @@ pub fn sound_suffix(t: &[u8], magic: u16) -> Sound
         }
         at = p;
     }
-    Sound::SuffixAt(suffix)
+    Sound::FirstAt(suffix)
 }
 
 // The number alone of a fault.

@@ -1,26 +1,19 @@
--- `erbest` meets its contract: by the case of what the port answers.
+-- `erbest` meets its contract: absent where there is no place, else the candidate at it.
+use mathlib.Core.Path.{ap}
+use borrow.Author.Tests.{eq-eqb, ne-eqb}
+use Rattle.decide.specs.declared.Erbest.the-variants.{Present}
 use borrow.Author.Needs.{needs}
 use Rattle.election.proofs.erbest.Statement.{statement}
 use Rattle.election.proofs.erbest.Tie as tie
 
-enum-told : tie.Need-enum-told
-enum-told c = search needs
-
-enum-told-2 : tie.Need-enum-told-2
-enum-told-2 c = search needs
-
-enum-known-best : tie.Need-enum-known-best
-enum-known-best c = search needs
-
 returns : tie.Need-returns
-returns c = search needs
+returns c = rw (eq-eqb _ 0 (c .if1 .taken))
+
+candidate-requires : tie.Need-candidate-requires
+candidate-requires c κs = search needs
 
 returns-2 : tie.Need-returns-2
-returns-2 c = search needs
-
-returns-3 : tie.Need-returns-3
-returns-3 c = rw (c .before .best .given .1)
+returns-2 c = rw (ne-eqb _ 0 (c .before .if1 .left)) (ap Present (c .candidate .ensures))
 
 pub erbest-spec : {M : Type 1} → statement M
-erbest-spec =
-    tie.close (tie.spec enum-told enum-told-2 enum-known-best returns returns-2 returns-3)
+erbest-spec = tie.close (tie.spec returns candidate-requires returns-2)

@@ -1,64 +1,71 @@
--- `copy_in` meets its contract: the loop's invariant says that the first i octets are copied.
-use Prim.Native.Nat.{_+_, _≤_, _<_, _-_}
-use mathlib.Core.Path.{_≡_, refl}
+-- `copy_in` meets its contract: few octets one by one; of others whole eights, and the last eight, which overlap them.
+use Prim.Native.Nat.{ℕ, _+_, _-_}
+use mathlib.Core.Path.{_≡_, ap, _∙_}
+use mathlib.Core.List.{[], _++_, append-nil}
 use native.Mathlib.Omega.{arith}
-use native.Mathlib.Numerals.{add-one}
-use lib.ListN.{length, length-set}
-use lib.Seq.{paste, paste-zero, paste-suc, take-length}
+use lib.ListN.{length, take}
+use lib.Seq.{take-length}
+use Rattle.octets.specs.Be.{octetsOf}
+use Rattle.layout.specs.Layout.{over}
+use Rattle.layout.proofs.Buffer.{overlap}
+use Rattle.layout.proofs.Spread.{spread, octets-back, take-spread}
+use borrow.Author.Needs.{needs}
 use Rattle.layout.proofs.copy_in.Statement.{statement}
 use Rattle.layout.proofs.copy_in.Tie as tie
 
-abbrev Inv-loop : tie.InvT-loop
-Inv-loop dst₀ at src i₀ dst i = (i ≤ length src) × (length dst ≡ length dst₀) × (dst ≡ paste dst₀ at src i)
+copy-each-requires : tie.Need-copy-each-requires
+copy-each-requires c κs = search needs
 
-abbrev μ-loop : tie.MeasureT-loop
-μ-loop dst₀ at src i₀ dst i = length src - i
+same-length : tie.Need-same-length
+same-length c = search needs
 
-loop-holds : tie.Need-loop-holds Inv-loop μ-loop
-loop-holds c = (omega arith, refl, paste-zero (c .args .dst .now) (c .args .at) (c .args .src .now))
+returns : tie.Need-returns
+returns c = search needs
 
-shared-slice-read-dst : tie.Need-shared-slice-read-dst Inv-loop μ-loop
-shared-slice-read-dst c = omega arith
+copy-eights-requires : tie.Need-copy-eights-requires
+copy-eights-requires c κs = search needs
 
-add-dst : tie.Need-add-dst Inv-loop μ-loop
-add-dst c = omega arith
+add-eight : tie.Need-add-eight
+add-eight c = search needs
 
-slice-write-dst : tie.Need-slice-write-dst Inv-loop μ-loop
-slice-write-dst c = omega arith
+u64-at-requires : tie.Need-u64-at-requires
+u64-at-requires c κs = search needs
 
-add-i : tie.Need-add-i Inv-loop μ-loop
-add-i c = omega arith
+eight-requires : tie.Need-eight-requires
+eight-requires c κs = search needs
 
-loop-less : tie.Need-loop-less Inv-loop μ-loop
-loop-less c = omega arith
+same-length-2 : tie.Need-same-length-2
+same-length-2 c = search needs
 
-loop-again : tie.Need-loop-again Inv-loop μ-loop
-loop-again c =
-    let l = c .before .before in
-    let a = l .before .args in
-    let h : a .at + l .loop .i < length (a .dst .now) = omega arith in
-    (omega arith, simp length-set (omega arith), rw (add-one, ← paste-suc (a .dst .now) (a .at) (a .src .now) (l .loop .i) 0 h (c .before .loop-test .taken), ← l .loop .inv .2))
-
-same-length : tie.Need-same-length Inv-loop μ-loop
-same-length c = omega arith
-
-returns : tie.Need-returns Inv-loop μ-loop
-returns c =
-    let e : c .before .loop .i ≡ length (c .before .before .args .src .now) = omega arith in
-    rw take-length at (rw e at (c .before .loop .inv .2))
+returns-2 : tie.Need-returns-2
+returns-2 c =
+    let k = c .before .before in
+    let u = k .before in
+    let e8 = u .before .before .before .before in
+    let g = e8 .before .before .before in
+    let a = g .before .before .args in
+    let d = a .dst .now in
+    let s = a .src .now in
+    let n = length s in
+    let r = e8 .copy-eights .result in
+    let j = n - 8 in
+    let z = spread 8 s j [] in
+    let nj : j + 8 ≡ n = omega arith in
+    let whole : take j s ++ z ≡ s = take-spread 8 s j [] (omega arith) ∙ append-nil (take (j + 8) s) ∙ ap (λ (m : ℕ). take m s) nj ∙ take-length s in
+    let y = ap (λ (m : ℕ). octetsOf 8 m []) (u .u64-at .ensures) ∙ octets-back 8 s j [] (λ m. omega (arith, g .shared-slice-known .given m)) in
+    k .eight .ensures ∙ (λ i. over (e8 .copy-eights .ensures .1 i) (a .at + j) (y i))
+    ∙ overlap d (a .at) s j r z (omega arith) (omega (arith, e8 .copy-eights .ensures .0 .1)) (e8 .copy-eights .ensures .0 .0) (omega (arith, e8 .copy-eights .ensures .0 .0)) whole
 
 pub copy-in-spec : {M : Type 1} → statement M
 copy-in-spec =
     tie.close
     (tie.spec
-    Inv-loop
-    μ-loop
-    loop-holds
-    shared-slice-read-dst
-    add-dst
-    slice-write-dst
-    add-i
-    loop-less
-    loop-again
+    copy-each-requires
     same-length
-    returns)
+    returns
+    copy-eights-requires
+    add-eight
+    u64-at-requires
+    eight-requires
+    same-length-2
+    returns-2)

@@ -10,14 +10,8 @@ use borrow.Author.Needs.{needs}
 use Rattle.layout.proofs.put_body.Statement.{statement}
 use Rattle.layout.proofs.put_body.Tie as tie
 
-first-octets-requires : tie.Need-first-octets-requires
-first-octets-requires c κs = search needs
-
-slice-aggregate-copy-in : tie.Need-slice-aggregate-copy-in
-slice-aggregate-copy-in c = search needs
-
-copy-in-requires : tie.Need-copy-in-requires
-copy-in-requires c κs = let f = c .before .before in let s = f .before .before in omega (arith, s .pre, least (s .args .b), ap length (f .first-octets .ensures), first-length (s .args .b))
+put-first-requires : tie.Need-put-first-requires
+put-first-requires c κs = let s = c .before .before in omega (arith, s .pre, least (s .args .b))
 
 put-more-requires : tie.Need-put-more-requires
 put-more-requires c κs = search needs
@@ -27,24 +21,15 @@ same-length c = search needs
 
 returns : tie.Need-returns
 returns c =
-    let m = c .before .before in
-    let k = m .before .before .before .before in
-    let f = k .before .before .before in
-    let s = f .before .before in
+    let k2 = c .before .before in
+    let k1 = k2 .before .before .before .before in
+    let s = k1 .before .before .before in
     let b = s .args .b in
     let d = s .args .out .now in
     let h : 34 ≤ length d = omega (arith, least b, s .pre) in
     let e : 44 ≡ 34 + length (firstOctets b []) = omega (arith, first-length b) in
-    put-two d 34 h (firstOctets b []) (moreOctets b []) e (f .first-octets .ensures) refl (k .copy-in .ensures) (m .put-more .ensures)
+    put-two d 34 h (firstOctets b []) (moreOctets b []) e refl refl (k1 .put-first .ensures) (k2 .put-more .ensures)
     ∙ ap (over d 34) (first-append b (moreOctets b []))
 
 pub put-body-spec : {M : Type 1} → statement M
-put-body-spec =
-    tie.close
-    (tie.spec
-    first-octets-requires
-    slice-aggregate-copy-in
-    copy-in-requires
-    put-more-requires
-    same-length
-    returns)
+put-body-spec = tie.close (tie.spec put-first-requires put-more-requires same-length returns)

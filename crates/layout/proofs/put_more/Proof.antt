@@ -1,9 +1,6 @@
 -- `put_more` meets its contract: case by case, one part or none.
-use mathlib.Core.Path.{ap}
 use native.Mathlib.Omega.{arith}
-use lib.ListN.{length}
 use Rattle.message.specs.Fields.{fixedSize}
-use Rattle.layout.specs.Layout.{identityOctets, announceOctets}
 use Rattle.layout.proofs.Buffer.{put-none}
 use borrow.Author.Needs.{needs}
 use Rattle.layout.proofs.put_more.Statement.{statement}
@@ -21,28 +18,16 @@ enum-told-3 c = search needs
 enum-known-b : tie.Need-enum-known-b
 enum-known-b c = search needs
 
-identity-octets-requires : tie.Need-identity-octets-requires
-identity-octets-requires c κs = search needs
-
-slice-aggregate-copy-in : tie.Need-slice-aggregate-copy-in
-slice-aggregate-copy-in c = search needs
-
-copy-in-requires : tie.Need-copy-in-requires
-unfolding identityOctets fixedSize
-copy-in-requires c κs = let b = c .before .before .before .before in omega (arith, rw (b .b .given .1) at (b .before .before .before .pre), ap length (c .before .identity-octets .ensures))
+put-identity-requires : tie.Need-put-identity-requires
+unfolding fixedSize
+put-identity-requires c κs = let b = c .before .before in omega (arith, rw (b .b .given .1) at (b .before .before .before .pre))
 
 enum-known-b-2 : tie.Need-enum-known-b-2
 enum-known-b-2 c = search needs
 
-announce-octets-requires : tie.Need-announce-octets-requires
-announce-octets-requires c κs = search needs
-
-slice-aggregate-copy-in-2 : tie.Need-slice-aggregate-copy-in-2
-slice-aggregate-copy-in-2 c = search needs
-
-copy-in-requires-2 : tie.Need-copy-in-requires-2
-unfolding announceOctets fixedSize
-copy-in-requires-2 c κs = let b = c .before .before .before .before in omega (arith, rw (b .b2 .given .1) at (b .before .before .before .pre), ap length (c .before .announce-octets .ensures))
+put-announce-requires : tie.Need-put-announce-requires
+unfolding fixedSize
+put-announce-requires c κs = let b = c .before .before in omega (arith, rw (b .b2 .given .1) at (b .before .before .before .pre))
 
 enum-told-4 : tie.Need-enum-told-4
 enum-told-4 c = search needs
@@ -60,13 +45,13 @@ same-length : tie.Need-same-length
 same-length c = search needs
 
 returns-4 : tie.Need-returns-4
-returns-4 c = let k = c .before .before in let x = k .before .before in rw (x .before .before .before .b .given .1, ← x .identity-octets .ensures) (k .copy-in .ensures)
+returns-4 c = let k = c .before .before in rw (k .before .before .before .b .given .1) (k .put-identity .ensures)
 
 same-length-2 : tie.Need-same-length-2
 same-length-2 c = search needs
 
 returns-5 : tie.Need-returns-5
-returns-5 c = let k = c .before .before in let x = k .before .before in rw (x .before .before .before .b2 .given .1, ← x .announce-octets .ensures) (k .copy-in2 .ensures)
+returns-5 c = let k = c .before .before in rw (k .before .before .before .b2 .given .1) (k .put-announce .ensures)
 
 returns-6 : tie.Need-returns-6
 returns-6 c = rw (c .enum-told4 .given .1) (put-none (c .before .before .before .args .out .now) 44)
@@ -79,13 +64,9 @@ put-more-spec =
     enum-told-2
     enum-told-3
     enum-known-b
-    identity-octets-requires
-    slice-aggregate-copy-in
-    copy-in-requires
+    put-identity-requires
     enum-known-b-2
-    announce-octets-requires
-    slice-aggregate-copy-in-2
-    copy-in-requires-2
+    put-announce-requires
     enum-told-4
     returns
     returns-2

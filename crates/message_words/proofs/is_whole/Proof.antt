@@ -1,69 +1,109 @@
--- `is_whole` meets its contract: the words of the message that was read out of them are compared, as far as its type has fields.
-use Prim.Native.Nat.{_-_}
-use mathlib.Core.Path.{_≡_, _∙_, ap}
-use lib.ListN.{getD, take}
+-- `is_whole` meets its contract: by type, the limits tell what the definition says.
+use mathlib.Core.Path.{_≡_, sym}
 use native.Mathlib.Omega.{arith}
-use Rattle.rank.specs.Order.{same}
-use Rattle.message_words.specs.Words.{messageWords, wordsFor}
+use lib.ListN.{length}
+use Rattle.message_words.proofs.Limits.{whole-sync, whole-delay-req, whole-follow-up, whole-delay-resp, whole-announce, whole-signaling, whole-none}
 use borrow.Author.Needs.{needs}
 use Rattle.message_words.proofs.is_whole.Statement.{statement}
 use Rattle.message_words.proofs.is_whole.Tie as tie
 
-element-copy-out-words-for : tie.Need-element-copy-out-words-for
-element-copy-out-words-for c = search needs
+size : (c : tie.After-all) → length (c .before .before .args .w .now) ≡ 20
+size c = search needs
 
-words-for-requires : tie.Need-words-for-requires
-words-for-requires c κs = search needs
+header-fits-requires : tie.Need-header-fits-requires
+header-fits-requires c κs = search needs
 
-message-of-requires : tie.Need-message-of-requires
-message-of-requires c κs = search needs
+shared-slice-read-kind : tie.Need-shared-slice-read-kind
+shared-slice-read-kind c = search needs
 
-message-words-requires : tie.Need-message-words-requires
-message-words-requires c κs = search needs
+stamp-fits-requires : tie.Need-stamp-fits-requires
+stamp-fits-requires c κs = search needs
 
-sub-are-same : tie.Need-sub-are-same
-sub-are-same c = search needs
+stamp-fits-requires-2 : tie.Need-stamp-fits-requires-2
+stamp-fits-requires-2 c κs = search needs
 
-part-are-same-start : tie.Need-part-are-same-start
-part-are-same-start c = search needs
+stamp-fits-requires-3 : tie.Need-stamp-fits-requires-3
+stamp-fits-requires-3 c κs = search needs
 
-part-are-same-end : tie.Need-part-are-same-end
-part-are-same-end c = search needs
+stamp-fits-requires-4 : tie.Need-stamp-fits-requires-4
+stamp-fits-requires-4 c κs = search needs
 
-sub-are-same-2 : tie.Need-sub-are-same-2
-sub-are-same-2 c = search needs
+element-copy-out-result : tie.Need-element-copy-out-result
+element-copy-out-result c = search needs
 
-part-are-same-start-2 : tie.Need-part-are-same-start-2
-part-are-same-start-2 c = search needs
+announce-fits-requires : tie.Need-announce-fits-requires
+announce-fits-requires c κs = search needs
 
-part-are-same-end-2 : tie.Need-part-are-same-end-2
-part-are-same-end-2 c = search needs
-
-are-same-requires : tie.Need-are-same-requires
-are-same-requires c κs = search needs
+element-copy-out-result-2 : tie.Need-element-copy-out-result-2
+element-copy-out-result-2 c = search needs
 
 returns : tie.Need-returns
 returns c =
-    let m = c .before .before .before .before in
-    let n = c .before .before .before .before .before .before in
-    let w = n .before .before .before .args .w .now in
-    let count : n .words-for .result - 0 ≡ wordsFor (getD w 0 0) = (omega arith) ∙ n .words-for .ensures .0 in
-    let own = m .message-words .ensures ∙ ap messageWords (m .before .message-of .ensures) in
-    c .are-same .ensures ∙ (λ i. same (take (count i) (own i)) (take (count i) w))
+    let m = c .before in
+    let l = m .before .before in
+    let h = l .before in
+    rw (h .header-fits .ensures, c .stamp-fits .ensures) (sym (whole-sync (h .before .args .w .now) (size l) (m .match .keys1)))
+
+returns-2 : tie.Need-returns-2
+returns-2 c =
+    let m = c .before in
+    let l = m .before .before in
+    let h = l .before in
+    rw (h .header-fits .ensures, c .stamp-fits2 .ensures) (sym (whole-delay-req (h .before .args .w .now) (size l) (m .match .keys2)))
+
+returns-3 : tie.Need-returns-3
+returns-3 c =
+    let m = c .before in
+    let l = m .before .before in
+    let h = l .before in
+    rw (h .header-fits .ensures, c .stamp-fits3 .ensures) (sym (whole-follow-up (h .before .args .w .now) (size l) (m .match .keys3)))
+
+returns-4 : tie.Need-returns-4
+returns-4 c =
+    let k = c .before in
+    let m = k .before in
+    let l = m .before .before in
+    let h = l .before in
+    rw (h .header-fits .ensures, k .stamp-fits4 .ensures) (sym (whole-delay-resp (h .before .args .w .now) (size l) (m .match .keys4)))
+
+returns-5 : tie.Need-returns-5
+returns-5 c =
+    let m = c .before in
+    let l = m .before .before in
+    let h = l .before in
+    rw (h .header-fits .ensures, c .announce-fits .ensures) (sym (whole-announce (h .before .args .w .now) (size l) (m .match .keys5)))
+
+returns-6 : tie.Need-returns-6
+returns-6 c =
+    let m = c .before in
+    let l = m .before .before in
+    let h = l .before in
+    rw (h .header-fits .ensures) (sym (whole-signaling (h .before .args .w .now) (size l) (m .match .keys6)))
+
+returns-7 : tie.Need-returns-7
+returns-7 c =
+    let l = c .before .before in
+    let h = l .before in
+    let r = c .match .rest in
+    sym (whole-none (h .before .args .w .now) (size l) (r .0 .0 .0 .0 .0 .1) (r .0 .0 .0 .0 .1) (r .0 .0 .0 .1) (r .0 .0 .1) (r .0 .1) (r .1))
 
 pub is-whole-spec : {M : Type 1} → statement M
 is-whole-spec =
     tie.close
     (tie.spec
-    element-copy-out-words-for
-    words-for-requires
-    message-of-requires
-    message-words-requires
-    sub-are-same
-    part-are-same-start
-    part-are-same-end
-    sub-are-same-2
-    part-are-same-start-2
-    part-are-same-end-2
-    are-same-requires
-    returns)
+    header-fits-requires
+    shared-slice-read-kind
+    stamp-fits-requires
+    stamp-fits-requires-2
+    stamp-fits-requires-3
+    stamp-fits-requires-4
+    element-copy-out-result
+    announce-fits-requires
+    element-copy-out-result-2
+    returns
+    returns-2
+    returns-3
+    returns-4
+    returns-5
+    returns-6
+    returns-7)

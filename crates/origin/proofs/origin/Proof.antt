@@ -1,9 +1,8 @@
--- `origin` meets its contract: by what `origin_says` says, then by the two-step bit.
+-- `origin` meets its contract: by what `origin_says` says.
 use mathlib.Core.Path.{_≡_, sym, _∙_}
 use Rattle.refusal.specs.declared.Outcome.the-variants.{Done}
-use native.Mathlib.Omega.{arith}
 use Rattle.origin.specs.Origin.{originCheck, originIn}
-use Rattle.origin.proofs.Laws.{sync-taken, follow-taken}
+use Rattle.origin.proofs.Laws.{origin-stamped}
 use borrow.Author.Needs.{needs}
 use Rattle.origin.proofs.origin.Statement.{statement}
 use Rattle.origin.proofs.origin.Tie as tie
@@ -24,14 +23,8 @@ slice-aggregate-result c = search needs
 enum-told-2 : tie.Need-enum-told-2
 enum-told-2 c = search needs
 
-is-two-step-requires : tie.Need-is-two-step-requires
-is-two-step-requires c κs = omega (arith, sync-taken _ _ _ (says c) .fixed)
-
-stamp-part-requires : tie.Need-stamp-part-requires
-stamp-part-requires c κs = let i = c .before in follow-taken _ _ _ (says (i .before)) (sym (i .is-two-step .ensures) ∙ c .if1 .taken) .0 .fixed
-
-stamp-part-requires-2 : tie.Need-stamp-part-requires-2
-stamp-part-requires-2 c κs = sync-taken _ _ _ (says (c .before .before)) .fixed
+checked-origin-requires : tie.Need-checked-origin-requires
+checked-origin-requires c κs = origin-stamped _ _ _ (says c)
 
 returns : tie.Need-returns
 unfolding originIn
@@ -39,11 +32,7 @@ returns c = let e = c .before in rw (← e .before .before .origin-says .ensures
 
 returns-2 : tie.Need-returns-2
 unfolding originIn
-returns-2 c = let i = c .before .before in rw (says (i .before), ← i .is-two-step .ensures, c .before .if1 .taken) (c .stamp-part .ensures)
-
-returns-3 : tie.Need-returns-3
-unfolding originIn
-returns-3 c = let i = c .before .before in rw (says (i .before), ← i .is-two-step .ensures, c .before .if1 .left) (c .stamp-part2 .ensures)
+returns-2 c = rw (says (c .before)) (c .checked-origin .ensures)
 
 pub origin-spec : {M : Type 1} → statement M
 origin-spec =
@@ -53,9 +42,6 @@ origin-spec =
     enum-told
     slice-aggregate-result
     enum-told-2
-    is-two-step-requires
-    stamp-part-requires
-    stamp-part-requires-2
+    checked-origin-requires
     returns
-    returns-2
-    returns-3)
+    returns-2)

@@ -20,8 +20,8 @@ shared-slice-read-window c = search needs
 window-requires : tie.Need-window-requires
 window-requires c κs = search needs
 
-find-requires : tie.Need-find-requires
-find-requires c κs = search needs
+find-of-requires : tie.Need-find-of-requires
+find-of-requires c κs = search needs
 
 load-requires : tie.Need-load-requires
 load-requires c κs = search needs
@@ -36,10 +36,10 @@ returns-2 c =
     let w = f .before .before in
     let g = w .before .before .before .before .before .args in
     let i<16 = l .before .if2 .taken in
-    plan-known (portOf (g .ws .now)) (g .t) (g .a) _ _ _ _ (w .before .before .if1 .left) (w .window .ensures) (f .find .ensures) i<16 (l .load .ensures ∙ slot-is _ _ i<16) (c .known .ensures)
+    plan-known (portOf (g .ws .now)) (g .t) (g .a) _ _ _ _ (w .before .before .if1 .left) (w .window .ensures) (f .find-of .ensures) i<16 (l .load .ensures ∙ slot-is _ _ i<16) (c .known .ensures)
 
-find-requires-2 : tie.Need-find-requires-2
-find-requires-2 c κs = search needs
+find-free-requires : tie.Need-find-free-requires
+find-free-requires c κs = search needs
 
 unknown-requires : tie.Need-unknown-requires
 unknown-requires c κs = search needs
@@ -50,7 +50,7 @@ returns-3 c =
     let f = n .before .before in
     let w = f .before .before in
     let g = w .before .before .before .before .before .args in
-    plan-new (portOf (g .ws .now)) (g .t) (g .a) _ _ _ _ (w .before .before .if1 .left) (w .window .ensures) (f .find .ensures) (n .before .if2 .left) (n .find2 .ensures) (c .unknown .ensures)
+    plan-new (portOf (g .ws .now)) (g .t) (g .a) _ _ _ _ (w .before .before .if1 .left) (w .window .ensures) (f .find-of .ensures) (n .before .if2 .left) (n .find-free .ensures) (c .unknown .ensures)
 
 pub plan-spec : {M : Type 1} → statement M
 plan-spec =
@@ -60,10 +60,10 @@ plan-spec =
     returns
     shared-slice-read-window
     window-requires
-    find-requires
+    find-of-requires
     load-requires
     known-requires
     returns-2
-    find-requires-2
+    find-free-requires
     unknown-requires
     returns-3)

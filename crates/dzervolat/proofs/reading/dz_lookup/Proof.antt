@@ -1,4 +1,5 @@
--- `dz_lookup` meets its contract: what is read is put into the words.
+-- `dz_lookup` meets its contract: what is found is put into the words, with the length that stands before its data.
+use Rattle.message.proofs.Part.{found-within, data-length}
 use borrow.Author.Needs.{needs}
 use Rattle.dzervolat.proofs.reading.dz_lookup.Statement.{statement}
 use Rattle.dzervolat.proofs.reading.dz_lookup.Tie as tie
@@ -6,16 +7,18 @@ use Rattle.dzervolat.proofs.reading.dz_lookup.Tie as tie
 looked-up-requires : tie.Need-looked-up-requires
 looked-up-requires c κs = search needs
 
-lookup-requires : tie.Need-lookup-requires
-lookup-requires c κs = search needs
+data-length-requires : tie.Need-data-length-requires
+data-length-requires c κs = found-within _ _ _ (c .looked-up .ensures)
 
 put-tlv-requires : tie.Need-put-tlv-requires
 put-tlv-requires c κs = search needs
 
 returns : tie.Need-returns
 returns c =
-    let d = c .before .before in
-    rw (← d .before .looked-up .ensures, ← d .lookup .ensures) (c .put-tlv .ensures)
+    let n = c .before .before in
+    let x = n .before .looked-up .ensures in
+    rw (← data-length _ _ _ x, ← n .data-length .ensures, ← x) (c .put-tlv .ensures)
 
 pub dz-lookup-spec : {M : Type 1} → statement M
-dz-lookup-spec = tie.close (tie.spec looked-up-requires lookup-requires put-tlv-requires returns)
+dz-lookup-spec =
+    tie.close (tie.spec looked-up-requires data-length-requires put-tlv-requires returns)

@@ -8,8 +8,9 @@ use lib.ListN.{take, drop}
 use Rattle.refusal.specs.Choice.{refuse}
 use Rattle.refusal.specs.declared.Outcome.the-variants.{Done}
 use Rattle.tlv.specs.Wr.{suffixIn, wrFlagsOf}
+use Rattle.tlv.specs.Form.{suffixAt}
 use Rattle.tlv.specs.Faults.{soundOf}
-use Rattle.tlv.specs.declared.walk.Sound.the-variants.{SuffixAt}
+use Rattle.tlv.specs.declared.walk.Sound.the-variants.{FirstAt}
 use Rattle.tlv.proofs.FaultLaws.{sound-check, faulty-check}
 use Rattle.message.specs.Fields.{lengthOf, tailOf}
 use Rattle.message.specs.Reading.{checkOf}
@@ -32,7 +33,7 @@ tail-is c = sized-tail _ (sizes (c .before .before .before))
 
 -- nothing is wrong with it
 sound : (c : tie.After-known-told) → let t = c .before .before .before .before in let s = t .before .before .before .before .before .before .args in
-    soundOf (s .magic) (tailOf (s .s .now)) ≡ SuffixAt (c .before .p .given .0 .0)
+    soundOf (s .magic) (suffixAt (s .magic) (tailOf (s .s .now))) (tailOf (s .s .now)) ≡ FirstAt (c .before .p .given .0 .0)
 sound c =
     let f = c .before .before .before in
     rw (tail-is (f .before)) (sym (f .sound-suffix .ensures) ∙ c .before .p .given .1)
@@ -85,7 +86,7 @@ returns-3 c =
     let f = c .before .before .before in
     ap announced.Refused (c .refusal-of3 .ensures)
     ∙ by-checks _ _
-    (λ d k. faulty-check _ _ (sym (f .sound-suffix .ensures) ∙ c .before .enum-told .given .1) (rw (tail-is (f .before)) at (accepted _ _ d .tail)))
+    (λ d k. faulty-check _ _ _ (sym (f .sound-suffix .ensures) ∙ c .before .enum-told .given .1) (rw (tail-is (f .before)) at (accepted _ _ d .tail)))
 
 suffix-at-requires : tie.Need-suffix-at-requires
 suffix-at-requires c κs = search needs
@@ -115,7 +116,7 @@ returns-4 c =
     let e2 = f .before .before in
     let n = e2 .before in
     let z = sizes (n .before) .0 in
-    let q = sound-check _ _ (sound k) in
+    let q = sound-check _ _ _ (sound k) in
     let d = sized-check _ _ z (rw (n .u32-at .ensures) at (e2 .if2 .left)) (q .0) in
     rw (d, eq-eqb _ _ (z .type), ← q .1, tail-is (f .before))
     (λ i. announced.Whole (record {

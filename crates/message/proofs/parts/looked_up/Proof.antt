@@ -1,96 +1,150 @@
--- `parts::looked_up` meets its contract: the checks, then where the walk finds the TLV.
-use Prim.Native.Nat.{_+_, _≤_}
+-- `parts::looked_up` meets its contract: where nothing is wrong the walk finds the TLV, and where something is the checks
+-- say what.
+use Prim.Native.Nat.{_+_, _-_, _≤_}
 use mathlib.Core.Path.{_≡_, sym, ap, _∙_}
 use native.Mathlib.Omega.{arith}
 use borrow.Author.Tests.{lt-ltb, le-ltb}
-use lib.ListN.{length}
-use Rattle.tlv.specs.declared.walk.Sought.the-variants.{OfType}
-use Rattle.tlv.proofs.FaultLaws.{place-found}
+use lib.ListN.{length, take, drop, length-take, length-drop}
+use Rattle.refusal.specs.declared.Outcome.{Outcome}
 use Rattle.refusal.specs.declared.Outcome.the-variants.{Done}
-use Rattle.message.specs.Fields.{tailOf}
-use Rattle.message.specs.Reading.{checkOf}
+use Rattle.tlv.specs.Walk.{first}
+use Rattle.tlv.specs.Faults.{soughtAt, tailCheck}
+use Rattle.tlv.specs.declared.walk.Sought.the-variants.{OfType}
+use Rattle.tlv.proofs.FaultLaws.{place-found, sound-check, faulty-check}
+use Rattle.message.specs.Reading.{checkOf, by}
 use Rattle.message.specs.Parts.{lookupOf}
-use Rattle.message.proofs.Laws.{bounded, tail-length}
+use Rattle.message.specs.Sound.{boundsAt}
+use Rattle.message.specs.When.{IsStamped}
+use Rattle.message.specs.declared.parts.TlvRead.the-variants as lookup
+use Rattle.message.proofs.Exactly.{stamped}
+use Rattle.message.proofs.SoundLaws.{told-bounds, no-bounds, part-tail, not-looked-up}
 use borrow.Author.Needs.{needs}
 use Rattle.message.proofs.parts.looked_up.Statement.{statement}
 use Rattle.message.proofs.parts.looked_up.Tie as tie
 
--- the checks are passed
-done : (c : tie.After-enum-told) → let a = c .before .before .before .before .args in checkOf (a .magic) (a .s .now) ≡ Done
-done c = sym (c .before .before .check .ensures) ∙ c .enum-told .given .1
+-- the lengths are those of octets that pass the checks before the tail's
+told : (c : tie.Else1) → let b = c .before in let s = b .before .before .args .s .now in IsStamped s × (b .fixed-bounds .result ≡ boundsAt s)
+told c = told-bounds _ (c .if1 .left) (sym (c .before .fixed-bounds .ensures))
 
--- where the data begin is inside the octets lent
-within : (c : tie.After-fixed-size) → let p = c .before .before .before in
-    c .fixed-size .result + p .place .result + 4 ≤ length (p .before .before .before .before .before .before .args .s .now)
-within c =
-    let k = c .before .before in
-    let p = k .before in
-    let t = p .before in
-    let a = t .before .before .before .before .before .args in
-    let b = bounded _ _ (done (t .before)) in
-    let n = tail-length (a .s .now) b in
-    let f = place-found (OfType (a .kind)) (t .checked-tail .result .now) (p .place .ensures) (k .if1 .taken) .whole .fits in
-    omega (arith, f, n, b .least, b .lent, c .fixed-size .ensures, ap length (t .checked-tail .ensures))
+least : (c : tie.Else1) → let b = c .before .fixed-bounds .result in b .size ≤ b .length
+least c = let t = told c in rw (t .1) (t .0 .0 .0 .1)
+
+lent : (c : tie.Else1) → c .before .fixed-bounds .result .length ≤ length (c .before .before .before .args .s .now)
+lent c = let t = told c in rw (t .1) (t .0 .0 .1)
+
+-- nothing is wrong with the part between them, and where the TLV stands in it
+sound : (c : tie.After-known-told) → let f = c .before .before .before in let a = f .before .before .before .before .before .args in
+    let b = f .before .before .before .fixed-bounds .result in
+    let t = take (b .length - b .size) (drop (b .size) (a .s .now)) in
+    (tailCheck (a .magic) t ≡ Done) × (c .before .p .given .0 .0 ≡ first (soughtAt (OfType (a .kind)) t) t 0)
+sound c = let f = c .before .before .before in sound-check _ _ _ (sym (f .sound-place .ensures) ∙ c .before .p .given .1)
+
+done : (c : tie.After-known-told) → let a = c .before .before .before .before .before .before .before .before .args in checkOf (a .magic) (a .s .now) ≡ Done
+done c =
+    let t = told (c .before .before .before .before .before) in
+    stamped _ _ (t .0) ∙ rw (part-tail _ (t .1)) at (sound c .0)
+
+fixed-bounds-requires : tie.Need-fixed-bounds-requires
+fixed-bounds-requires c κs = search needs
 
 check-requires : tie.Need-check-requires
 check-requires c κs = search needs
 
-enum-known-x : tie.Need-enum-known-x
-enum-known-x c = search needs
+unread-requires : tie.Need-unread-requires
+unread-requires c κs = search needs
+
+returns : tie.Need-returns
+returns c =
+    let k = c .before in
+    let e = k .before in
+    c .unread .ensures
+    ∙ ap (λ (x : Outcome). by x lookup.Refused lookup.Absent) (k .check .ensures)
+    ∙ not-looked-up _ _ _ (no-bounds _ _ (e .if1 .taken) (sym (e .before .fixed-bounds .ensures)))
+
+sub-t : tie.Need-sub-t
+sub-t c = let l = least c in omega arith
+
+part-t-start : tie.Need-part-t-start
+part-t-start c = let l = least c in omega arith
+
+part-t-end : tie.Need-part-t-end
+part-t-end c = lent c
+
+sound-place-requires : tie.Need-sound-place-requires
+sound-place-requires c κs = search needs
+
+enum-known-p : tie.Need-enum-known-p
+enum-known-p c = search needs
 
 enum-told : tie.Need-enum-told
 enum-told c = search needs
 
-checked-tail-requires : tie.Need-checked-tail-requires
-checked-tail-requires c κs = bounded _ _ (done c)
+check-requires-2 : tie.Need-check-requires-2
+check-requires-2 c κs = search needs
 
-place-requires : tie.Need-place-requires
-place-requires c κs = search needs
-
-shared-slice-read-fixed-size : tie.Need-shared-slice-read-fixed-size
-shared-slice-read-fixed-size c = let b = bounded _ _ (done (c .before .before .before .before)) in omega arith
-
-fixed-size-requires : tie.Need-fixed-size-requires
-fixed-size-requires c κs = search needs
-
-add-t17 : tie.Need-add-t17
-add-t17 c = let h = within c in omega arith
-
-add-t18 : tie.Need-add-t18
-add-t18 c = let h = within c in omega arith
-
-returns : tie.Need-returns
-unfolding lookupOf
-returns c = rw (← c .before .before .before .check .ensures, c .before .x .given .1)
+unread-requires-2 : tie.Need-unread-requires-2
+unread-requires-2 c κs = search needs
 
 returns-2 : tie.Need-returns-2
-unfolding lookupOf
 returns-2 c =
-    let k = c .before .before in
-    let p = k .before in
-    let t = p .before in
-    rw (done (t .before), ← t .checked-tail .ensures, ← p .place .ensures, lt-ltb _ _ (k .if1 .taken), ← c .fixed-size .ensures)
+    let k = c .before in
+    let m = k .before in
+    let f = m .before .before in
+    let t = told (f .before .before) in
+    let n = faulty-check _ _ _ (sym (f .sound-place .ensures) ∙ m .enum-told .given .1) in
+    c .unread2 .ensures
+    ∙ ap (λ (x : Outcome). by x lookup.Refused lookup.Absent) (k .check2 .ensures)
+    ∙ not-looked-up _ _ _ (λ d. n (rw (part-tail _ (t .1)) (sym (stamped _ _ (t .0)) ∙ d)))
+
+add-t17 : tie.Need-add-t17
+add-t17 c = search needs
+
+add-t18 : tie.Need-add-t18
+add-t18 c =
+    let k = c .before in
+    let t = k .before .before .before .before in
+    let a = t .before .before .before .before .args in
+    let b = t .before .before .fixed-bounds .result in
+    let u = take (b .length - b .size) (drop (b .size) (a .s .now)) in
+    let l : b .size ≤ b .length = least (t .before) in
+    let m : b .length ≤ length (a .s .now) = lent (t .before) in
+    let n : length u ≡ b .length - b .size = simp (length-take, length-drop) (omega arith) in
+    let f = place-found (OfType (a .kind)) u (sound k .1) (c .if2 .taken) .whole .fits in
+    omega arith
 
 returns-3 : tie.Need-returns-3
 unfolding lookupOf
 returns-3 c =
-    let p = c .before in
-    let t = p .before in
-    rw (done (t .before), ← t .checked-tail .ensures, ← p .place .ensures, le-ltb _ _ (c .if1 .left))
+    let k = c .before in
+    let t = k .before .before .before .before in
+    let e = told (t .before) .1 in
+    rw (done k, ← part-tail _ e, ← sound k .1, lt-ltb _ _ (c .if2 .taken)) (λ i. lookup.Found (e i .size + k .before .p .given .0 .0 + 4))
+
+returns-4 : tie.Need-returns-4
+unfolding lookupOf
+returns-4 c =
+    let k = c .before in
+    let t = k .before .before .before .before in
+    rw (done k, ← part-tail _ (told (t .before) .1), ← sound k .1, le-ltb _ _ (c .if2 .left))
 
 pub looked-up-spec : {M : Type 1} → statement M
 looked-up-spec =
     tie.close
     (tie.spec
+    fixed-bounds-requires
     check-requires
-    enum-known-x
+    unread-requires
+    returns
+    sub-t
+    part-t-start
+    part-t-end
+    sound-place-requires
+    enum-known-p
     enum-told
-    checked-tail-requires
-    place-requires
-    shared-slice-read-fixed-size
-    fixed-size-requires
+    check-requires-2
+    unread-requires-2
+    returns-2
     add-t17
     add-t18
-    returns
-    returns-2
-    returns-3)
+    returns-3
+    returns-4)

@@ -12,7 +12,7 @@ use Rattle.tlv.specs.Walk.{nextOf, broken, first}
 use Rattle.tlv.specs.Form.{misfitAt, isSuffix, suffixAt}
 use Rattle.tlv.specs.Faults.{whole, misfit, laterOf, soundOf}
 use Rattle.tlv.specs.declared.walk.Next.the-variants.{At}
-use Rattle.tlv.specs.declared.walk.Sound.the-variants.{SuffixAt, Faulty}
+use Rattle.tlv.specs.declared.walk.Sound.the-variants.{FirstAt, Faulty}
 use Rattle.tlv.proofs.WalkLaws.{next-fits, next-whole, next-size, walk-end, walk-bad, walk-more}
 use Rattle.tlv.proofs.FaultLaws.{firstSoFar, carried, later-inside, settled, misfit-by, either, lt-eqb}
 use Rattle.tlv.proofs.walk.sound_suffix.Statement.{statement}
@@ -141,7 +141,7 @@ returns-3 c =
     let m : misfit magic t 0 ≡ length t = sym (l .loop .inv .2) ∙ rw e (walk-end _ _ _ _) in
     let n : first (suffixAt magic t) t (l .loop .at) ≡ length t = rw e (walk-end _ _ _ _) in
     let s = settled _ _ (l .loop .inv .3) ∙ rw n at (l .loop .inv .4) in
-    rw (b, m, eq-eqb _ _ refl) (ap SuffixAt s)
+    rw (b, m, eq-eqb _ _ refl) (ap FirstAt s)
 
 pub sound-suffix-spec : {M : Type 1} → statement M
 sound-suffix-spec =

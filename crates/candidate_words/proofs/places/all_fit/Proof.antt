@@ -1,0 +1,133 @@
+-- `all_fit` meets its contract. The loop's invariant: those passed fit.
+use Prim.Native.Nat.{ℕ, _+_, _≤_, _<_, _-_}
+use mathlib.Core.Path.{_≡_, refl, sym, ap, _∙_}
+use mathlib.Core.Bool.{true}
+use native.Mathlib.Omega.{arith}
+use borrow.Author.Needs.{needs}
+use borrow.Author.Tests.{not-false, eqb-true, eqb-false}
+use lib.Dec.{eqb}
+use lib.ListN.{length, getD}
+use Rattle.rank.specs.Ranked.{isPort}
+use Rattle.rank.proofs.Best.{cases}
+use Rattle.candidate_words.specs.Places.{candidateOf, Fit}
+use Rattle.candidate_words.proofs.MergeLaws.{never}
+use Rattle.candidate_words.proofs.places.all_fit.Statement.{statement}
+use Rattle.candidate_words.proofs.places.all_fit.Tie as tie
+use Rattle.candidate_words.proofs.places.all_fit.Reads as reads
+use Rattle.candidate_words.proofs.places.all_fit.Lts as lts
+use Rattle.candidate_words.proofs.fits.one_fits.Reads as one-fits-reads
+use Rattle.rank.proofs.is_port.Reads as is-port-reads
+use Rattle.words.proofs.port_of.Reads as port-of-reads
+
+abbrev Inv-loop : tie.InvT-loop
+Inv-loop run from to i₀ i = (from ≤ i) × (i ≤ to) × ((k : ℕ) → from ≤ k → k < i → Fit run k)
+
+abbrev μ-loop : tie.MeasureT-loop
+μ-loop run from to i₀ i = to - i
+
+-- src/places.rt:266:5
+loop-holds : tie.Need-loop-holds Inv-loop μ-loop
+loop-holds c = (omega arith, c .pre .0, λ k h j. absurd (omega arith))
+
+-- src/places.rt:267:42
+mul-port-of : tie.Need-mul-port-of Inv-loop μ-loop
+mul-port-of c = search needs
+
+-- src/places.rt:267:42
+index-1-port-of : tie.Need-index-1-port-of Inv-loop μ-loop
+index-1-port-of c = search needs
+
+-- src/places.rt:267:42
+index-2-port-of : tie.Need-index-2-port-of Inv-loop μ-loop
+index-2-port-of c = search needs
+
+-- src/places.rt:267:27
+port-of-requires : tie.Need-port-of-requires Inv-loop μ-loop
+port-of-requires c κs = search needs
+
+-- src/places.rt:267:13
+is-port-requires : tie.Need-is-port-requires Inv-loop μ-loop
+is-port-requires c κs = search needs
+
+-- src/places.rt:268:13
+returns : tie.Need-returns Inv-loop μ-loop
+returns c = λ e. never e refl
+
+-- src/places.rt:270:35
+mul-one-fits : tie.Need-mul-one-fits Inv-loop μ-loop
+mul-one-fits c = search needs
+
+-- src/places.rt:270:35
+shared-slice-element-one-fits : tie.Need-shared-slice-element-one-fits Inv-loop μ-loop
+shared-slice-element-one-fits c = search needs
+
+-- src/places.rt:270:13
+one-fits-requires : tie.Need-one-fits-requires Inv-loop μ-loop
+one-fits-requires c κs = search needs
+
+-- src/places.rt:271:13
+returns-2 : tie.Need-returns-2 Inv-loop μ-loop
+returns-2 c = λ e. never e refl
+
+-- src/places.rt:273:9
+add-i : tie.Need-add-i Inv-loop μ-loop
+add-i c = search needs
+
+-- src/places.rt:266:5
+loop-less : tie.Need-loop-less Inv-loop μ-loop
+loop-less c = search needs
+
+-- the candidate of a turn that goes on fits
+fits-here : (c : tie.Else2 Inv-loop μ-loop)
+    → let l = c .before .before .before .before .before .before .before .before in Fit (l .before .args .run .now) (l .loop .i)
+unfolding candidateOf
+fits-here c =
+    let o = c .before in
+    let e = o .before .before in
+    let p = e .before in
+    let t = p .before .before .before in
+    record {
+      inside = omega (arith, t .loop-test .taken, t .before .before .pre .1);
+      valid = sym (p .is-port .ensures ∙ ap isPort (p .before .port-of .ensures)) ∙ not-false _ (e .if1 .left);
+      fits = sym (o .one-fits .ensures) ∙ not-false _ (c .if2 .left);
+    }
+
+-- src/places.rt:266:5
+loop-again : tie.Need-loop-again Inv-loop μ-loop
+loop-again c =
+    let t = c .before .before .before .before .before .before .before in
+    let l = t .before in
+    let run = l .before .args .run .now in (
+      omega (arith, l .loop .inv .0),
+      omega (arith, t .loop-test .taken),
+      λ k h j.
+          cases (eqb k (l .loop .i))
+          (λ e. rw (eqb-true k (l .loop .i) e) (fits-here c))
+          (λ e. let n = eqb-false k (l .loop .i) e in l .loop .inv .2 k h (omega arith)),
+    )
+
+-- src/places.rt:261:1
+returns-3 : tie.Need-returns-3 Inv-loop μ-loop
+returns-3 c = let l = c .before in λ e k h j. l .loop .inv .2 k h (omega (arith, c .loop-test .left))
+
+pub all-fit-spec : {M : Type 1} → statement M
+all-fit-spec =
+    tie.close
+    (tie.spec
+    Inv-loop
+    μ-loop
+    loop-holds
+    mul-port-of
+    index-1-port-of
+    index-2-port-of
+    port-of-requires
+    is-port-requires
+    returns
+    mul-one-fits
+    shared-slice-element-one-fits
+    one-fits-requires
+    returns-2
+    add-i
+    loop-less
+    loop-again
+    returns-3)

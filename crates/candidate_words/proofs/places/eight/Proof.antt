@@ -1,0 +1,76 @@
+-- `eight` meets its contract, candidate by candidate.
+use mathlib.Core.List.{[], _∷_}
+use Rattle.candidate_words.specs.Places.{eightOf}
+use borrow.Author.Needs.{needs}
+use Rattle.candidate_words.proofs.places.eight.Statement.{statement}
+use Rattle.candidate_words.proofs.places.eight.Tie as tie
+use Rattle.candidate_words.proofs.places.eight.Reads as reads
+use Rattle.candidate_words.proofs.places.eight.Lts as lts
+use Rattle.candidate_words.proofs.places.row.Reads as row-reads
+
+-- src/places.rt:249:9
+row-requires : tie.Need-row-requires
+row-requires c κs = search needs
+
+-- src/places.rt:250:9
+row-requires-2 : tie.Need-row-requires-2
+row-requires-2 c κs = search needs
+
+-- src/places.rt:251:9
+row-requires-3 : tie.Need-row-requires-3
+row-requires-3 c κs = search needs
+
+-- src/places.rt:252:9
+row-requires-4 : tie.Need-row-requires-4
+row-requires-4 c κs = search needs
+
+-- src/places.rt:253:9
+row-requires-5 : tie.Need-row-requires-5
+row-requires-5 c κs = search needs
+
+-- src/places.rt:254:9
+row-requires-6 : tie.Need-row-requires-6
+row-requires-6 c κs = search needs
+
+-- src/places.rt:255:9
+row-requires-7 : tie.Need-row-requires-7
+row-requires-7 c κs = search needs
+
+-- src/places.rt:256:9
+row-requires-8 : tie.Need-row-requires-8
+row-requires-8 c κs = search needs
+
+-- src/places.rt:245:1
+returns : tie.Need-returns
+unfolding eightOf
+returns c =
+    let g = c .before in
+    let f = g .before in
+    let e = f .before in
+    let d = e .before in
+    let z = d .before in
+    let y = z .before in
+    let x = y .before in
+    λ i. x .row .ensures i
+    ∷ y .row2 .ensures i
+    ∷ z .row3 .ensures i
+    ∷ d .row4 .ensures i
+    ∷ e .row5 .ensures i
+    ∷ f .row6 .ensures i
+    ∷ g .row7 .ensures i
+    ∷ c .row8 .ensures i
+    ∷ []
+
+pub eight-spec : {M : Type 1} → statement M
+eight-spec =
+    tie.close
+    (tie.spec
+    row-requires
+    row-requires-2
+    row-requires-3
+    row-requires-4
+    row-requires-5
+    row-requires-6
+    row-requires-7
+    row-requires-8
+    returns)

@@ -1,0 +1,105 @@
+-- `lower` meets its contract. The loop's invariant: what is left of the words decides as all of them do.
+use Prim.Native.Nat.{_≤_, _-_}
+use mathlib.Core.Path.{_≡_, refl, sym, _∙_}
+use native.Mathlib.Omega.{arith}
+use borrow.Author.Needs.{needs}
+use lib.ListN.{drop}
+use Rattle.rank.specs.Order.{lex}
+use Rattle.candidate_words.specs.Places.{wordsAt, lowerOf}
+use Rattle.candidate_words.proofs.PlaceLaws.{lex-here, lex-on}
+use Rattle.candidate_words.proofs.places.lower.Statement.{statement}
+use Rattle.candidate_words.proofs.places.lower.Tie as tie
+use Rattle.candidate_words.proofs.places.lower.Reads as reads
+use Rattle.candidate_words.proofs.places.lower.Lts as lts
+
+abbrev Inv-loop : tie.InvT-loop
+Inv-loop a b i₀ i = (i ≤ 11) × (lex (drop i (wordsAt a 0)) (drop i (wordsAt b 0)) ≡ lowerOf a b)
+
+abbrev μ-loop : tie.MeasureT-loop
+μ-loop a b i₀ i = 11 - i
+
+-- src/places.rt:24:5
+loop-holds : tie.Need-loop-holds Inv-loop μ-loop
+unfolding lowerOf
+loop-holds c = (omega arith, refl)
+
+-- src/places.rt:25:12
+mul-if1 : tie.Need-mul-if1 Inv-loop μ-loop
+mul-if1 c = search needs
+
+-- src/places.rt:25:12
+element-copy-out-if1 : tie.Need-element-copy-out-if1 Inv-loop μ-loop
+element-copy-out-if1 c = search needs
+
+-- src/places.rt:25:20
+mul-if1-2 : tie.Need-mul-if1-2 Inv-loop μ-loop
+mul-if1-2 c = search needs
+
+-- src/places.rt:25:20
+element-copy-out-if1-2 : tie.Need-element-copy-out-if1-2 Inv-loop μ-loop
+element-copy-out-if1-2 c = search needs
+
+-- src/places.rt:26:20
+mul-result : tie.Need-mul-result Inv-loop μ-loop
+mul-result c = search needs
+
+-- src/places.rt:26:20
+element-copy-out-result : tie.Need-element-copy-out-result Inv-loop μ-loop
+element-copy-out-result c = search needs
+
+-- src/places.rt:26:27
+mul-result-2 : tie.Need-mul-result-2 Inv-loop μ-loop
+mul-result-2 c = search needs
+
+-- src/places.rt:26:27
+element-copy-out-result-2 : tie.Need-element-copy-out-result-2 Inv-loop μ-loop
+element-copy-out-result-2 c = search needs
+
+-- src/places.rt:26:13
+returns : tie.Need-returns Inv-loop μ-loop
+returns c =
+    let t = c .before .before in
+    let l = t .before .before .before .before in
+    lex-here (l .before .args .a .now) (l .before .args .b .now) (l .loop .i) (omega arith) (t .if1 .taken) ∙ l .loop .inv .1
+
+-- src/places.rt:28:9
+add-i : tie.Need-add-i Inv-loop μ-loop
+add-i c = search needs
+
+-- src/places.rt:24:5
+loop-less : tie.Need-loop-less Inv-loop μ-loop
+loop-less c = search needs
+
+-- src/places.rt:24:5
+loop-again : tie.Need-loop-again Inv-loop μ-loop
+loop-again c =
+    let l = c .before .before .before .before in
+    (omega arith, lex-on (l .before .args .a .now) (l .before .args .b .now) (l .loop .i) (omega arith) (c .if1 .left) ∙ l .loop .inv .1)
+
+-- src/places.rt:20:1
+returns-2 : tie.Need-returns-2 Inv-loop μ-loop
+returns-2 c =
+    let l = c .before in
+    let e : l .loop .i ≡ 11 = omega arith in
+    rw e at (l .loop .inv .1)
+
+pub lower-spec : {M : Type 1} → statement M
+lower-spec =
+    tie.close
+    (tie.spec
+    Inv-loop
+    μ-loop
+    loop-holds
+    mul-if1
+    element-copy-out-if1
+    mul-if1-2
+    element-copy-out-if1-2
+    mul-result
+    element-copy-out-result
+    mul-result-2
+    element-copy-out-result-2
+    returns
+    add-i
+    loop-less
+    loop-again
+    returns-2)

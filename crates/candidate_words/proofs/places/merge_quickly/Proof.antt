@@ -1,0 +1,75 @@
+-- `merge_quickly` meets its contract: the eight candidates are those of the two lists.
+use Prim.Native.Nat.{ℕ}
+use mathlib.Core.Path.{ap, _∙_, subst}
+use Rattle.candidate_words.specs.Places.{Tried}
+use mathlib.Core.List.{List}
+use lib.ListN.{length, getD}
+use Rattle.candidate_words.proofs.MergeLaws.{not-merged, merged, few-both, length-eight}
+use borrow.Author.Needs.{needs}
+use Rattle.candidate_words.proofs.places.merge_quickly.Statement.{statement}
+use Rattle.candidate_words.proofs.places.merge_quickly.Tie as tie
+use Rattle.candidate_words.proofs.places.merge_quickly.Reads as reads
+use Rattle.candidate_words.proofs.places.merge_quickly.Lts as lts
+use Rattle.candidate_words.proofs.places.eight.Reads as eight-reads
+use Rattle.candidate_words.proofs.places.merge_run.Reads as merge-run-reads
+
+-- src/places.rt:316:13
+element-copy-out-if1 : tie.Need-element-copy-out-if1
+element-copy-out-if1 c = search needs
+
+-- src/places.rt:316:26
+element-copy-out-if1-2 : tie.Need-element-copy-out-if1-2
+element-copy-out-if1-2 c = search needs
+
+-- src/places.rt:317:9
+returns : tie.Need-returns
+returns c = not-merged _ _ _
+
+-- src/places.rt:319:15
+eight-requires : tie.Need-eight-requires
+eight-requires c κs = search needs
+
+-- src/places.rt:320:15
+slice-aggregate-merge-run : tie.Need-slice-aggregate-merge-run
+slice-aggregate-merge-run c = search needs
+
+-- src/places.rt:320:21
+element-copy-out-merge-run : tie.Need-element-copy-out-merge-run
+element-copy-out-merge-run c = search needs
+
+-- src/places.rt:320:36
+element-copy-out-merge-run-2 : tie.Need-element-copy-out-merge-run-2
+element-copy-out-merge-run-2 c = search needs
+
+-- src/places.rt:320:5
+merge-run-requires : tie.Need-merge-run-requires
+merge-run-requires c κs =
+    let g = c .before .before .before .before in
+    let s = g .before .before .before .before in
+    let f = few-both _ _ (g .before .if1 .left) in
+    (ap length (g .eight .ensures) ∙ length-eight (s .args .a .now) (s .args .b .now), f .0, f .1)
+
+-- src/places.rt:313:1
+returns-2 : tie.Need-returns-2
+returns-2 c =
+    let g = c .before .before .before .before .before in
+    let s = g .before .before .before .before in
+    let f = few-both _ _ (g .before .if1 .left) in
+    let a = s .args .a .now in
+    let b = s .args .b .now in
+    merged a b (c .merge-run .result) (s .args .out .now) (c .merge-run .last .1 .1 .1 .0) (f .0) (f .1)
+    (subst (λ (r : List (List ℕ)). Tried r (getD a 0 0) (getD b 0 0) (c .merge-run .result) (s .args .out .now) (c .merge-run .last .1 .1 .1 .0)) (g .eight .ensures) (c .merge-run .ensures))
+
+pub merge-quickly-spec : {M : Type 1} → statement M
+merge-quickly-spec =
+    tie.close
+    (tie.spec
+    element-copy-out-if1
+    element-copy-out-if1-2
+    returns
+    eight-requires
+    slice-aggregate-merge-run
+    element-copy-out-merge-run
+    element-copy-out-merge-run-2
+    merge-run-requires
+    returns-2)

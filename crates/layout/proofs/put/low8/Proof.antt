@@ -1,0 +1,33 @@
+-- `put::low8` meets its contract: two halves, one behind the other.
+use Prim.Native.Nat.{_/_}
+use mathlib.Core.Path.{refl}
+use mathlib.Core.List.{[]}
+use native.Mathlib.Omega.{arith}
+use Rattle.layout.specs.Put.{lowOf}
+use Rattle.layout.proofs.Buffer.{put-two}
+use borrow.Author.Needs.{needs}
+use Rattle.layout.proofs.put.low8.Statement.{statement}
+use Rattle.layout.proofs.put.low8.Tie as tie
+
+low4-requires : tie.Need-low4-requires
+low4-requires c κs = search needs
+
+add-low4 : tie.Need-add-low4
+add-low4 c = search needs
+
+low4-requires-2 : tie.Need-low4-requires-2
+low4-requires-2 c κs = search needs
+
+same-length : tie.Need-same-length
+same-length c = search needs
+
+returns : tie.Need-returns
+returns c =
+    let k2 = c .before .before in
+    let k1 = k2 .before .before .before .before in
+    let s = k1 .before .before .before .args in
+    let v = s .v in
+    put-two (s .out .now) (s .at) (omega arith) (lowOf 4 v []) (lowOf 4 (v / 256 / 256 / 256 / 256) []) refl refl refl (k1 .low4 .ensures) (k2 .low42 .ensures)
+
+pub low8-spec : {M : Type 1} → statement M
+low8-spec = tie.close (tie.spec low4-requires add-low4 low4-requires-2 same-length returns)

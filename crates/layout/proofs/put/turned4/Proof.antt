@@ -1,0 +1,31 @@
+-- `put::turned4` meets its contract: the two halves change places, each turned.
+use mathlib.Core.Path.{_∙_}
+use mathlib.Core.List.{_++_}
+use native.Mathlib.Omega.{arith}
+use Rattle.layout.proofs.Low.{low-four}
+use borrow.Author.Needs.{needs}
+use Rattle.layout.proofs.put.turned4.Statement.{statement}
+use Rattle.layout.proofs.put.turned4.Tie as tie
+
+turned2-requires : tie.Need-turned2-requires
+turned2-requires c κs = search needs
+
+turned2-requires-2 : tie.Need-turned2-requires-2
+turned2-requires-2 c κs = search needs
+
+mul-result : tie.Need-mul-result
+mul-result c = search needs
+
+add-result : tie.Need-add-result
+add-result c = search needs
+
+returns : tie.Need-returns
+returns c =
+    let lo = c in
+    let hi = c .before in
+    let e = low-four (hi .turned2 .result) (lo .turned22 .result) (hi .turned2 .ensures .1) ∙ (λ i. hi .turned2 .ensures .0 i ++ lo .turned22 .ensures .0 i) in
+    (e, omega arith)
+
+pub turned4-spec : {M : Type 1} → statement M
+turned4-spec =
+    tie.close (tie.spec turned2-requires turned2-requires-2 mul-result add-result returns)

@@ -1,0 +1,30 @@
+-- `put::turned8` meets its contract: the two halves change places, each turned.
+use mathlib.Core.Path.{_∙_}
+use mathlib.Core.List.{_++_}
+use Rattle.layout.proofs.Low.{low-eight}
+use borrow.Author.Needs.{needs}
+use Rattle.layout.proofs.put.turned8.Statement.{statement}
+use Rattle.layout.proofs.put.turned8.Tie as tie
+
+turned4-requires : tie.Need-turned4-requires
+turned4-requires c κs = search needs
+
+turned4-requires-2 : tie.Need-turned4-requires-2
+turned4-requires-2 c κs = search needs
+
+mul-result : tie.Need-mul-result
+mul-result c = search needs
+
+add-result : tie.Need-add-result
+add-result c = search needs
+
+returns : tie.Need-returns
+returns c =
+    let lo = c in
+    let hi = c .before in
+    let e = low-eight (hi .turned4 .result) (lo .turned42 .result) (hi .turned4 .ensures .1) ∙ (λ i. hi .turned4 .ensures .0 i ++ lo .turned42 .ensures .0 i) in
+    e
+
+pub turned8-spec : {M : Type 1} → statement M
+turned8-spec =
+    tie.close (tie.spec turned4-requires turned4-requires-2 mul-result add-result returns)

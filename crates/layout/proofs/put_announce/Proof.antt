@@ -1,0 +1,30 @@
+-- `put_announce` meets its contract: two parts, one behind the other.
+use mathlib.Core.Path.{refl}
+use native.Mathlib.Omega.{arith}
+use Rattle.layout.specs.Layout.{announceOctets}
+use Rattle.layout.specs.Put.{offsetOctets, grandmasterOctets}
+use Rattle.layout.proofs.Buffer.{put-two}
+use borrow.Author.Needs.{needs}
+use Rattle.layout.proofs.put_announce.Statement.{statement}
+use Rattle.layout.proofs.put_announce.Tie as tie
+
+put-offset-requires : tie.Need-put-offset-requires
+put-offset-requires c κs = search needs
+
+put-grandmaster-requires : tie.Need-put-grandmaster-requires
+put-grandmaster-requires c κs = search needs
+
+same-length : tie.Need-same-length
+same-length c = search needs
+
+returns : tie.Need-returns
+unfolding announceOctets offsetOctets grandmasterOctets
+returns c =
+    let k2 = c .before .before in
+    let k1 = k2 .before .before .before .before in
+    let s = k1 .before .before .before .args in
+    put-two (s .out .now) 44 (omega arith) (offsetOctets (s .a)) (grandmasterOctets (s .a)) refl refl refl (k1 .put-offset .ensures) (k2 .put-grandmaster .ensures)
+
+pub put-announce-spec : {M : Type 1} → statement M
+put-announce-spec =
+    tie.close (tie.spec put-offset-requires put-grandmaster-requires same-length returns)

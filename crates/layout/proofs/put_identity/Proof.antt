@@ -1,0 +1,37 @@
+-- `put_identity` meets its contract: clock and port, one behind the other.
+use mathlib.Core.Path.{refl}
+use mathlib.Core.List.{[]}
+use native.Mathlib.Omega.{arith}
+use Rattle.octets.specs.Be.{octetsOf}
+use Rattle.layout.specs.Layout.{identityOctets}
+use Rattle.layout.proofs.Buffer.{put-two}
+use borrow.Author.Needs.{needs}
+use Rattle.layout.proofs.put_identity.Statement.{statement}
+use Rattle.layout.proofs.put_identity.Tie as tie
+
+eight-requires : tie.Need-eight-requires
+eight-requires c κs = search needs
+
+add-two : tie.Need-add-two
+add-two c = search needs
+
+cast-two : tie.Need-cast-two
+cast-two c = search needs
+
+two-requires : tie.Need-two-requires
+two-requires c κs = search needs
+
+same-length : tie.Need-same-length
+same-length c = search needs
+
+returns : tie.Need-returns
+unfolding identityOctets
+returns c =
+    let k2 = c .before .before in
+    let k1 = k2 .before .before .before .before .before in
+    let s = k1 .before .before .before .args in
+    put-two (s .out .now) (s .at) (omega arith) (octetsOf 8 (s .p .clock) []) (octetsOf 2 (s .p .port) []) refl refl refl (k1 .eight .ensures) (k2 .two .ensures)
+
+pub put-identity-spec : {M : Type 1} → statement M
+put-identity-spec =
+    tie.close (tie.spec eight-requires add-two cast-two two-requires same-length returns)

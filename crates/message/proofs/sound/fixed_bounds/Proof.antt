@@ -1,0 +1,109 @@
+-- `sound::fixed_bounds` meets its contract: at each way out the tests before it are known.
+use Prim.Native.Nat.{_≤_}
+use mathlib.Core.Path.{_≡_}
+use native.Mathlib.Omega.{arith}
+use borrow.Author.Tests.{lt-ltb, le-ltb, eq-eqb, ne-eqb}
+use Rattle.refusal.specs.Choice.{refuse}
+use Rattle.message.specs.Sound.{fixedBounds}
+use Rattle.message.proofs.Laws.{size-least}
+use borrow.Author.Needs.{needs}
+use Rattle.message.proofs.sound.fixed_bounds.Statement.{statement}
+use Rattle.message.proofs.sound.fixed_bounds.Tie as tie
+
+returns : tie.Need-returns
+unfolding fixedBounds refuse
+returns c = rw (lt-ltb _ _ (c .if1 .taken))
+
+shared-slice-read-if2 : tie.Need-shared-slice-read-if2
+shared-slice-read-if2 c = search needs
+
+returns-2 : tie.Need-returns-2
+unfolding fixedBounds refuse
+returns-2 c = rw (le-ltb _ _ (c .before .before .if1 .left), ne-eqb _ _ (c .if2 .taken))
+
+shared-slice-read-kind : tie.Need-shared-slice-read-kind
+shared-slice-read-kind c = search needs
+
+fixed-size-requires : tie.Need-fixed-size-requires
+fixed-size-requires c κs = search needs
+
+returns-3 : tie.Need-returns-3
+unfolding fixedBounds refuse
+returns-3 c =
+    let k = c .before in
+    let e2 = k .before .before in
+    rw (le-ltb _ _ (e2 .before .before .if1 .left), eq-eqb _ _ (e2 .if2 .left), ← k .fixed-size .ensures, eq-eqb _ _ (c .if3 .taken))
+
+u16-at-requires : tie.Need-u16-at-requires
+u16-at-requires c κs = search needs
+
+cast-length : tie.Need-cast-length
+cast-length c = search needs
+
+returns-4 : tie.Need-returns-4
+unfolding fixedBounds refuse
+returns-4 c =
+    let n = c .before in
+    let e3 = n .before in
+    let k = e3 .before in
+    let e2 = k .before .before in
+    rw (le-ltb _ _ (e2 .before .before .if1 .left), eq-eqb _ _ (e2 .if2 .left), ← k .fixed-size .ensures, ne-eqb _ _ (e3 .if3 .left), ← n .u16-at .ensures, lt-ltb _ _ (c .if4 .taken))
+
+returns-5 : tie.Need-returns-5
+unfolding fixedBounds refuse
+returns-5 c =
+    let e4 = c .before in
+    let n = e4 .before in
+    let e3 = n .before in
+    let k = e3 .before in
+    let e2 = k .before .before in
+    rw (le-ltb _ _ (e2 .before .before .if1 .left), eq-eqb _ _ (e2 .if2 .left), ← k .fixed-size .ensures, ne-eqb _ _ (e3 .if3 .left), ← n .u16-at .ensures, le-ltb _ _ (e4 .if4 .left), lt-ltb _ _ (c .if5 .taken))
+
+bad-stamp-requires : tie.Need-bad-stamp-requires
+bad-stamp-requires c κs =
+    let e3 = c .before .before .before in
+    let k = e3 .before in
+    let h = size-least _ (rw (k .fixed-size .ensures) at (e3 .if3 .left)) in
+    omega (arith, h, k .fixed-size .ensures)
+
+returns-6 : tie.Need-returns-6
+unfolding fixedBounds refuse
+returns-6 c =
+    let b = c .before in
+    let e5 = b .before in
+    let e4 = e5 .before in
+    let n = e4 .before in
+    let e3 = n .before in
+    let k = e3 .before in
+    let e2 = k .before .before in
+    rw (le-ltb _ _ (e2 .before .before .if1 .left), eq-eqb _ _ (e2 .if2 .left), ← k .fixed-size .ensures, ne-eqb _ _ (e3 .if3 .left), ← n .u16-at .ensures, le-ltb _ _ (e4 .if4 .left), le-ltb _ _ (e5 .if5 .left), ← b .bad-stamp .ensures, c .if6 .taken)
+
+returns-7 : tie.Need-returns-7
+unfolding fixedBounds refuse
+returns-7 c =
+    let b = c .before in
+    let e5 = b .before in
+    let e4 = e5 .before in
+    let n = e4 .before in
+    let e3 = n .before in
+    let k = e3 .before in
+    let e2 = k .before .before in
+    rw (le-ltb _ _ (e2 .before .before .if1 .left), eq-eqb _ _ (e2 .if2 .left), ← k .fixed-size .ensures, ne-eqb _ _ (e3 .if3 .left), ← n .u16-at .ensures, le-ltb _ _ (e4 .if4 .left), le-ltb _ _ (e5 .if5 .left), ← b .bad-stamp .ensures, c .if6 .left)
+
+pub fixed-bounds-spec : {M : Type 1} → statement M
+fixed-bounds-spec =
+    tie.close
+    (tie.spec
+    returns
+    shared-slice-read-if2
+    returns-2
+    shared-slice-read-kind
+    fixed-size-requires
+    returns-3
+    u16-at-requires
+    cast-length
+    returns-4
+    returns-5
+    bad-stamp-requires
+    returns-6
+    returns-7)

@@ -1,0 +1,110 @@
+-- `straight::check` meets its contract: at each way out the tests before it are known.
+use Prim.Native.Nat.{_+_, _<_, _≤_}
+use native.Mathlib.Omega.{arith}
+use borrow.Author.Tests.{lt-ltb, le-ltb}
+use lib.ListN.{length}
+use Rattle.refusal.specs.Choice.{refuse}
+use Rattle.writer.specs.Writing.{writeCheck}
+use Rattle.message_words.specs.Words.{headerOf}
+use borrow.Author.Needs.{needs}
+use Rattle.message_words.proofs.straight.check.Statement.{statement}
+use Rattle.message_words.proofs.straight.check.Tie as tie
+
+past : (c : tie.Then3) → 65535 < c .before .size-of .result + length (c .before .before .before .before .before .before .before .args .tail .now)
+past c = omega arith
+
+within : (c : tie.Else3) → c .before .size-of .result + length (c .before .before .before .before .before .before .before .args .tail .now) ≤ 65535
+within c = omega arith
+
+element-copy-out-if1 : tie.Need-element-copy-out-if1
+element-copy-out-if1 c = search needs
+
+returns : tie.Need-returns
+unfolding writeCheck refuse headerOf
+returns c = rw (le-ltb _ _ (c .if1 .taken))
+
+body-holds-requires : tie.Need-body-holds-requires
+body-holds-requires c κs = search needs
+
+returns-2 : tie.Need-returns-2
+unfolding writeCheck refuse headerOf
+returns-2 c = let f = c .before in rw (lt-ltb _ _ (f .before .if1 .left), ← f .body-holds .ensures, c .if2 .taken)
+
+size-of-requires : tie.Need-size-of-requires
+size-of-requires c κs = search needs
+
+sub-if3 : tie.Need-sub-if3
+sub-if3 c = search needs
+
+returns-3 : tie.Need-returns-3
+unfolding writeCheck refuse headerOf
+returns-3 c =
+    let z = c .before in
+    let e2 = z .before in
+    let f = e2 .before in
+    let e1 = f .before in
+    rw (lt-ltb _ _ (e1 .if1 .left), ← f .body-holds .ensures, e2 .if2 .left, ← z .size-of .ensures .0, lt-ltb _ _ (past c))
+
+check-requires : tie.Need-check-requires
+check-requires c κs = search needs
+
+enum-told : tie.Need-enum-told
+enum-told c = search needs
+
+enum-told-2 : tie.Need-enum-told-2
+enum-told-2 c = search needs
+
+add-if4 : tie.Need-add-if4
+add-if4 c = search needs
+
+returns-4 : tie.Need-returns-4
+unfolding writeCheck refuse headerOf
+returns-4 c =
+    let t = c .before .before in
+    let e3 = t .before in
+    let z = e3 .before in
+    let e2 = z .before in
+    let f = e2 .before in
+    let e1 = f .before in
+    rw (lt-ltb _ _ (e1 .if1 .left), ← f .body-holds .ensures, e2 .if2 .left, ← z .size-of .ensures .0, le-ltb _ _ (within e3), ← t .check .ensures, c .enum-told .given .1)
+
+returns-5 : tie.Need-returns-5
+unfolding writeCheck refuse headerOf
+returns-5 c =
+    let t = c .before .before .before in
+    let e3 = t .before in
+    let z = e3 .before in
+    let e2 = z .before in
+    let f = e2 .before in
+    let e1 = f .before in
+    rw (lt-ltb _ _ (e1 .if1 .left), ← f .body-holds .ensures, e2 .if2 .left, ← z .size-of .ensures .0, le-ltb _ _ (within e3), ← t .check .ensures, c .before .enum-told2 .given .1, lt-ltb _ _ (c .if4 .taken))
+
+returns-6 : tie.Need-returns-6
+unfolding writeCheck refuse headerOf
+returns-6 c =
+    let t = c .before .before .before in
+    let e3 = t .before in
+    let z = e3 .before in
+    let e2 = z .before in
+    let f = e2 .before in
+    let e1 = f .before in
+    rw (lt-ltb _ _ (e1 .if1 .left), ← f .body-holds .ensures, e2 .if2 .left, ← z .size-of .ensures .0, le-ltb _ _ (within e3), ← t .check .ensures, c .before .enum-told2 .given .1, le-ltb _ _ (c .if4 .left))
+
+pub check-spec : {M : Type 1} → statement M
+check-spec =
+    tie.close
+    (tie.spec
+    element-copy-out-if1
+    returns
+    body-holds-requires
+    returns-2
+    size-of-requires
+    sub-if3
+    returns-3
+    check-requires
+    enum-told
+    enum-told-2
+    add-if4
+    returns-4
+    returns-5
+    returns-6)
