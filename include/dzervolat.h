@@ -427,7 +427,11 @@ dz_answer dz_link_set(uint64_t links[DZ_LINKS_WORDS], uint64_t port, uint8_t con
 
 /* Events of a port's link: a start with the parent's config and mode (any number but 0 is on), a link message by its number, the hardware is
    done, a timeout, a stop. What no rule names is ignored and changes nothing in links that grew from zeros (in other words, bits that no link has are
-   cleared). Each refuses 8. */
+   cleared). Each refuses 8.
+
+   A message that is lost is sent again at its sender's timeout while the sender is in that message's state. A CALIBRATE whose sender has gone on to
+   CALIBRATED, and a WR_MODE_ON, are not sent again, and the draft has no remedy: each side's fourth timeout takes it to IDLE with mode off, but a
+   master that has sent WR_MODE_ON stays in IDLE with mode on. A host that sees this starts the slave again. */
 dz_answer dz_link_start(uint64_t links[DZ_LINKS_WORDS], uint64_t port, uint8_t config, uint8_t mode, uint64_t step[DZ_STEP_WORDS]);
 dz_answer dz_link_take(uint64_t links[DZ_LINKS_WORDS], uint64_t port, uint16_t number, uint64_t step[DZ_STEP_WORDS]);
 dz_answer dz_link_done(uint64_t links[DZ_LINKS_WORDS], uint64_t port, uint64_t step[DZ_STEP_WORDS]);

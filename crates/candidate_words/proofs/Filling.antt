@@ -16,7 +16,7 @@ use Rattle.rank.specs.declared.Candidate.{Candidate}
 use Rattle.rank.specs.declared.Ranked.{Ranked}
 use Rattle.rank.specs.Order.{earlierOf}
 use Rattle.rank.specs.Best.{sink, insert}
-use Rattle.rank.specs.Ranked.{portOf, allValid, rankOf, blankOf, unpack, leftOut, insertOf, insertAll}
+use Rattle.rank.specs.Ranked.{receiverOf, allValid, rankOf, blankOf, unpack, leftOut, insertOf, insertAll}
 use Rattle.rank.specs.Calls.{doneOf, rankingOf}
 use Rattle.rank.proofs.Best.{cases, insert-late, rank-step, rank-middle, rank-good}
 use Rattle.rank.proofs.Order.{ordered}
@@ -36,13 +36,13 @@ pub record Holds (r : Ranked) (s : List Candidate) : Type 0 where
 
 module _ (r : Ranked) (s : List Candidate) (y : Candidate) (h : Holds r s) where
   abbrev inserted : List Candidate
-  inserted = insert earlierOf portOf 4 y (unpack r)
+  inserted = insert earlierOf receiverOf 4 y (unpack r)
 
   inserts : inserted ≡ R (y ∷ s)
-  inserts = ap (insert earlierOf portOf 4 y) (h .list) ∙ sym (rank-step earlierOf portOf ordered 4 y s)
+  inserts = ap (insert earlierOf receiverOf 4 y) (h .list) ∙ sym (rank-step earlierOf receiverOf ordered 4 y s)
 
   short : length inserted ≤ 4
-  short = omega (arith, length-take 4 (sink earlierOf portOf (y .port) y (unpack r)))
+  short = omega (arith, length-take 4 (sink earlierOf receiverOf (y .port) y (unpack r)))
 
   unmoved : leftOut r y ≡ true → unpack r ≡ R (y ∷ s)
   unmoved t =
@@ -55,8 +55,8 @@ module _ (r : Ranked) (s : List Candidate) (y : Candidate) (h : Holds r s) where
       let full : length (R s) ≡ 4 =
       ap length (sym (h .list)) ∙ length-take-le (r .len) (r .slots) (omega (arith, h .size, h .few)) ∙ n in
       h .list
-      ∙ sym (insert-late earlierOf portOf ordered 3 y blankOf (R s) (rank-good earlierOf portOf ordered 4 s) full late)
-      ∙ sym (rank-step earlierOf portOf ordered 4 y s)
+      ∙ sym (insert-late earlierOf receiverOf ordered 3 y blankOf (R s) (rank-good earlierOf receiverOf ordered 4 s) full late)
+      ∙ sym (rank-step earlierOf receiverOf ordered 4 y s)
 
   holds-more : Holds (insertOf r y) (y ∷ s)
   holds-more =
@@ -73,7 +73,7 @@ module _ (r : Ranked) (s : List Candidate) (y : Candidate) (h : Holds r s) where
 -- inserting one after the other
 pub holds-all : (l : List Candidate) (r : Ranked) (s : List Candidate) → Holds r s → unpack (insertAll r l) ≡ R (l ++ s)
 holds-all [] r s h = h .list
-holds-all (y ∷ ys) r s h = holds-all ys (insertOf r y) (y ∷ s) (holds-more r s y h) ∙ rank-middle earlierOf portOf ordered 4 ys y s
+holds-all (y ∷ ys) r s h = holds-all ys (insertOf r y) (y ∷ s) (holds-more r s y h) ∙ rank-middle earlierOf receiverOf ordered 4 ys y s
 
 -- no places yet
 pub holds-none : (run : List (List ℕ)) (p : Places) → p .len ≡ 0 → length (p .at) ≡ 4 → Holds (listOf run p) []

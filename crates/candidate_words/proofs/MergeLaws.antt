@@ -8,12 +8,13 @@ use borrow.Author.Tests.{lt-leb, le-leb, leb-false, ltb-false, eqb-true}
 use lib.Dec.{eqb, leb, ltb}
 use lib.ListN.{length, take, drop, getD, length-map}
 use lib.Seq.{slice, slice-empty, length-slice, ext-getD, getD-drop, getD-take, take-append-le, take-append-add}
+use Rattle.laws.proofs.Bools.{clash}
 use Rattle.refusal.specs.Choice.{refuse}
 use Rattle.refusal.specs.declared.Outcome.the-variants.{Done}
 use Rattle.rank.specs.declared.Candidate.{Candidate}
 use Rattle.rank.specs.declared.Ranking.{Ranking}
 use Rattle.rank.specs.Order.{earlierOf}
-use Rattle.rank.specs.Ranked.{portOf, isPort, allValid, rankOf, blankOf, pack, unpack, insertAll, inRank, isRanked}
+use Rattle.rank.specs.Ranked.{receiverOf, isPort, allValid, rankOf, blankOf, pack, unpack, insertAll, inRank, isRanked}
 use Rattle.rank.specs.Calls.{doneOf, mergeOf}
 use Rattle.rank.proofs.Best.{cases, rank-swap}
 use Rattle.rank.proofs.Order.{ordered}
@@ -27,14 +28,11 @@ use Rattle.candidate_words.proofs.RunLaws.{run-length, run-at, slice-he
 use Rattle.candidate_words.proofs.PlaceLaws.{held-length, held-at}
 use Rattle.candidate_words.proofs.Filling.{Holds, holds-all, holds-none}
 
-pub never : {G : Type 0} {b : Bool} → b ≡ true → b ≡ false → G
-never {G} {b} p q = absurd (let z : _≡_ {A = ℕ} 0 1 = cc in omega arith)
-
 -- what the tests say
 pub few-both : (x y : ℕ) → (ltb 4 x || ltb 4 y) ≡ false → (x ≤ 4) × (y ≤ 4)
 few-both x y h =
     cases (ltb 4 x)
-    (λ e. never {b = true} refl (simp e at h))
+    (λ e. clash {b = true} refl (simp e at h))
     (λ e. (ltb-false 4 x e, ltb-false 4 y (simp e at h)))
 
 one-of : (n k x y : ℕ) → (leb n k || eqb x y) ≡ true → k < n → x ≡ y
@@ -116,7 +114,7 @@ pub both-ranked : (run : List (List ℕ)) (q r : Places) (s t : List Candidate) 
 both-ranked run q r s t v w h e =
     ap unpack e
     ∙ holds-all t (listOf run q) s h
-    ∙ rank-swap earlierOf portOf ordered 4 t s
+    ∙ rank-swap earlierOf receiverOf ordered 4 t s
     ∙ defined (s ++ t) (all-append _ s t v w)
 
 pub length-eight : (a b : List ℕ) → length (eightOf a b) ≡ 8
@@ -188,7 +186,7 @@ module _ (a b : List ℕ) where
 -- nothing was done
 pub not-tried : (run : List (List ℕ)) (n m : ℕ) (out : List ℕ) → Tried run n m false out out
 not-tried run n m out =
-    record { left = λ e. refl; first = λ e. never e refl; second = λ e. never e refl; words = λ e. never e refl }
+    record { left = λ e. refl; first = λ e. clash e refl; second = λ e. clash e refl; words = λ e. clash e refl }
 
 pub not-merged : (a b out : List ℕ) → Merged a b false out out
-not-merged a b out = record { left = λ e. refl; outcome = λ e. never e refl; words = λ e. never e refl }
+not-merged a b out = record { left = λ e. refl; outcome = λ e. clash e refl; words = λ e. clash e refl }

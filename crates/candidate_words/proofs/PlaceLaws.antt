@@ -127,11 +127,11 @@ each-set P at i x n h hx f k hk =
 -- going down the slots of the list that places stand for, by the word of the port
 pub sinks : (run : List (List ℕ)) (p : Places) (c : ℕ) → Inside run p → Fit run c
     → let slots = map (candidateOf run) (p .at) in
-    laid (take 4 (sink earlierOf ranked.portOf (getD (getD run c []) 9 0) (candidateOf run c) (take (p .len) slots))) slots
+    laid (take 4 (sink earlierOf ranked.receiverOf (getD (getD run c []) 9 0) (candidateOf run c) (take (p .len) slots))) slots
     ≡ sinkOf (listOf run p) (candidateOf run c)
 sinks run p c inside h =
     let slots = map (candidateOf run) (p .at) in
-    ap (λ (q : ℕ). laid (take 4 (sink earlierOf ranked.portOf q (candidateOf run c) (take (p .len) slots))) slots) (sym (port-word run c h))
+    ap (λ (q : ℕ). laid (take 4 (sink earlierOf ranked.receiverOf q (candidateOf run c) (take (p .len) slots))) slots) (sym (port-word run c h))
     ∙ to-spec (listOf run p) (candidateOf run c) (p .len) (length-map (p .at) (candidateOf run) ∙ inside .size) (omega (arith, inside .few))
 
 -- the words at one of four places are those of the slot that it stands for

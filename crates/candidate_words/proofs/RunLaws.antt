@@ -1,7 +1,7 @@
 -- A run one candidate at a time: what is refused of it, and the candidates that it holds.
 use Prim.Native.Nat.{ℕ, zero, suc, _+_, _≤_, _<_}
 use mathlib.Core.Path.{_≡_, refl, sym, ap, _∙_}
-use mathlib.Core.Bool.{Bool, true, false, _&&_}
+use mathlib.Core.Bool.{Bool, true, false, _&&_, and-assoc}
 use mathlib.Core.List.{List, [], _∷_}
 use native.Mathlib.Omega.{arith}
 use native.Mathlib.Numerals.{add-one}
@@ -56,10 +56,6 @@ pub refused-stays : (b : Bool) (x : Refusal) → outcomeFitted b (Refused x) ≡
 refused-stays true x = refl
 refused-stays false x = refl
 
-and-assoc : (a b c : Bool) → (a && (b && c)) ≡ ((a && b) && c)
-and-assoc true b c = refl
-and-assoc false b c = refl
-
 pub check-many : (run : List (List ℕ)) → 288 < length run → Refused Many ≡ checkedOf run
 unfolding refuse
 check-many run h = rw (run-length run, lt-ltb 288 (length run) h) (sym (refused-stays (runFits run) Many))
@@ -81,7 +77,7 @@ module _ (run : List (List ℕ)) (whole : Bool) (i : ℕ) where
   pub check-more : i < length run → isPort (portOf (getD this 9 0)) ≡ true
       → soFar (whole && candidateFits this 0) (drop (i + 1) run) ≡ soFar whole (drop i run)
   check-more h e =
-      rw (left-here run i h, e, and-assoc whole (candidateFits this 0) (runFits (drop (i + 1) run)))
+      rw (left-here run i h, e, ← and-assoc whole (candidateFits this 0) (runFits (drop (i + 1) run)))
 
   pub check-fits : i ≤ length run → length run ≤ i → whole ≡ true → Done ≡ soFar whole (drop i run)
   check-fits h k e = rw (left-none run i h k, e)

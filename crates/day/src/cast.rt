@@ -1,5 +1,6 @@
-// Who is heard on that day: two masters, a boundary clock, a looped tenant, and a tenant with endless new names. Each
-// writes its Announces with the engine's own writer, and the clock takes them from the octets.
+// Who is heard on that day: two masters, a boundary clock, a tenant's own clock, a looped cable, and tenants with endless
+// new names. Each writes its Announces with the engine's own writer, and the clock takes them from the octets.
+use crate::tally;
 use crate::text;
 use message::fields::Announce;
 use message::fields::Body;
@@ -9,7 +10,6 @@ use message::fields::PortIdentity;
 use message::fields::Timestamp;
 use ports::intake::Settings;
 use rank::Grandmaster;
-use refusal::Outcome;
 use writer::writing::Written;
 
 // Our own clock.
@@ -18,15 +18,22 @@ pub const OURS: u64 = 0x00c0_ffee_0000_0001;
 // The magic of White Rabbit's TLVs.
 pub const MAGIC: u16 = 0xABCD;
 
-// The two masters, and the boundary clock behind which either is heard.
-pub const FIRST: u64 = 0x00a1_0000_0000_0001;
+// The two masters, the boundary clock behind which either is heard, and a tenant's own clock.
+const FIRST: u64 = 0x00a1_0000_0000_0001;
 
-pub const SECOND: u64 = 0x00b2_0000_0000_0002;
+const SECOND: u64 = 0x00b2_0000_0000_0002;
 
 const BOUNDARY: u64 = 0x00b3_0000_0000_0003;
 
-// The first master falls silent at 13:00.
-pub const SILENCE: u64 = 13 * 3600;
+const TENANT: u64 = 0x00e4_0000_0000_0004;
+
+// The nanoseconds of a second.
+const NANOS: u64 = refusal::SECOND_NANOS as u64;
+
+// The first master is there from 00:20 on, and falls silent at 13:00.
+const DAWN: u64 = 20 * 60;
+
+const SILENCE: u64 = 13 * 3600;
 
 // Seconds from one Announce of a sender to its next; every port's interval is set to it.
 pub const BEAT: u64 = 2;
@@ -76,6 +83,11 @@ fn satellite(identity: u64, priority2: u8) -> Grandmaster {
     }
 }
 
+// Whether the first master is there.
+fn is_first(second: u64) -> bool {
+    (DAWN <= second) & (second < SILENCE)
+}
+
 fn first_master() -> Speaker {
     Speaker {
         clock: FIRST,
@@ -96,9 +108,9 @@ fn second_master() -> Speaker {
     }
 }
 
-// The boundary clock follows the first master while it is there, then the second.
+// The boundary clock follows the first master while it is there, a minute later than we do, else the second.
 fn boundary(second: u64) -> Speaker {
-    let grandmaster = if second < SILENCE {
+    let grandmaster = if is_first(second) & (DAWN + 60 <= second) {
         satellite(FIRST, 10)
     } else {
         satellite(SECOND, 20)
@@ -112,34 +124,28 @@ fn boundary(second: u64) -> Speaker {
     }
 }
 
-// A tenant's cable that brings our own Announces back.
-fn looped() -> Speaker {
-    Speaker {
-        clock: OURS,
-        port: 9,
-        grandmaster: own(),
-        steps: 0,
-        flags: 0,
-    }
-}
-
-// A name of the tenant that floods its port, which claims to be better than anybody.
-fn flooding(name: u64) -> Speaker {
-    let clock = 0x00f0_0000_0000_0000 + name % 65536;
+// A clock like ours that runs free, heard on a port.
+fn free(clock: u64, port: u8) -> Speaker {
+    let own = own();
     Speaker {
         clock,
-        port: 12,
+        port,
         grandmaster: Grandmaster {
-            priority1: 0,
-            class: 6,
-            accuracy: 32,
-            variance: 0,
-            priority2: 0,
+            priority1: own.priority1,
+            class: own.class,
+            accuracy: own.accuracy,
+            variance: own.variance,
+            priority2: own.priority2,
             identity: clock,
         },
         steps: 0,
         flags: 0,
     }
+}
+
+// A name of a tenant that floods a port.
+fn flooding(name: u64, port: u8) -> Speaker {
+    free(0x00f0_0000_0000_0000 + name % 65536, port)
 }
 
 fn body(s: Speaker) -> Body {
@@ -201,16 +207,23 @@ fn announced(out: &mut [u8], s: Speaker, sequence: u16) -> usize {
     )
 }
 
-// One Announce, taken at `t` nanoseconds from the octets that its sender wrote.
-fn heard(words: &mut [u64; 1764], t: u64, s: Speaker, sequence: u16) -> Outcome {
+// One Announce, taken at `t` nanoseconds from the octets that its sender wrote, and what became of it.
+fn heard(
+    words: &mut [u64; ports::WORDS],
+    counts: &mut [u64; 76],
+    t: u64,
+    s: Speaker,
+    sequence: u16,
+) {
     let mut sent = [0u8; 78];
     let n = announced(&mut sent, s, sequence);
-    ports::intake::take(words, s.port, t, text::front(&sent, n), settings())
+    let x = ports::intake::take(words, s.port, t, text::front(&sent, n), settings());
+    tally::note(counts, s.port, x);
 }
 
 // A second of the day in nanoseconds.
 pub fn instant(second: u64) -> u64 {
-    second % 86_400 * 1_000_000_000
+    second % 86_400 * NANOS
 }
 
 // sequenceIds count beats, and wrap.
@@ -219,71 +232,63 @@ fn number(second: u64) -> u16 {
 }
 
 // What every even second brings: an Announce of each of those that are there.
-fn beat(words: &mut [u64; 1764], second: u64) {
+pub fn beat(words: &mut [u64; ports::WORDS], counts: &mut [u64; 76], second: u64) {
     let t = instant(second);
     let n = number(second);
-    if second < SILENCE {
-        heard(words, t, first_master(), n);
+    if is_first(second) {
+        heard(words, counts, t, first_master(), n);
     }
-    heard(words, t, second_master(), n);
-    heard(words, t, boundary(second), n);
+    heard(words, counts, t, second_master(), n);
+    heard(words, counts, t, boundary(second), n);
+    heard(words, counts, t, free(TENANT, 14), n);
 }
 
-// An hour of beats.
-pub fn hour(words: &mut [u64; 1764], h: u64) {
-    let start = h % 24 * 3600;
-    let mut i: u64 = 0;
-    while i < 1800 {
-        beat(words, start + BEAT * i);
-        i += 1;
+// A cable that brings our own Announce back to port 9.
+pub fn looped(words: &mut [u64; ports::WORDS], counts: &mut [u64; 76], second: u64) {
+    heard(
+        words,
+        counts,
+        instant(second),
+        free(OURS, 9),
+        number(second),
+    );
+}
+
+// Names between two beats, and nanoseconds from one of their Announces to the next.
+pub const NAMES: u64 = 100;
+
+const APART: u64 = 10_000_000;
+
+// A new name, which speaks twice, so that it counts as a candidate where it is kept.
+fn name(
+    words: &mut [u64; ports::WORDS],
+    counts: &mut [u64; 76],
+    port: u8,
+    second: u64,
+    j: u64,
+    from: u64,
+) {
+    let s = flooding(std::num::wrapping_add_u64(from, j), port);
+    heard(words, counts, spoken(second, 2 * (j % NAMES)), s, 1);
+    heard(words, counts, spoken(second, 2 * (j % NAMES) + 1), s, 2);
+}
+
+// The time of the j-th Announce of new names behind a beat.
+pub fn spoken(second: u64, j: u64) -> u64 {
+    std::num::wrapping_add_u64(instant(second), j % 256 * APART)
+}
+
+// A hundred new names on a port between two beats, the first of which is `from`.
+pub fn flood(
+    words: &mut [u64; ports::WORDS],
+    counts: &mut [u64; 76],
+    port: u8,
+    second: u64,
+    from: u64,
+) {
+    let mut j: u64 = 0;
+    while j < NAMES {
+        name(words, counts, port, second, j, from);
+        j += 1;
     }
-}
-
-// How many Announces of a tenant were taken, how many were refused, and the number of the last refusal.
-pub struct Count {
-    pub taken: u64,
-    pub refused: u64,
-    pub last: u64,
-}
-
-fn counted(c: Count, x: Outcome) -> Count {
-    match x {
-        Outcome::Done => Count {
-            taken: std::num::wrapping_add_u64(c.taken, 1),
-            refused: c.refused,
-            last: c.last,
-        },
-        Outcome::Refused(r) => Count {
-            taken: c.taken,
-            refused: std::num::wrapping_add_u64(c.refused, 1),
-            last: refusal::number(r),
-        },
-    }
-}
-
-pub fn none() -> Count {
-    Count {
-        taken: 0,
-        refused: 0,
-        last: 0,
-    }
-}
-
-// One Announce of a tenant: a new name of the one that floods its port, or what the looped cable brings back.
-fn attempt(c: Count, words: &mut [u64; 1764], t: u64, i: u64, floods: bool) -> Count {
-    let s = if floods { flooding(i) } else { looped() };
-    counted(c, heard(words, t, s, (i % 65536) as u16))
-}
-
-// What a tenant tries from an hour on: n Announces, so many nanoseconds apart.
-pub fn tries(words: &mut [u64; 1764], h: u64, n: u64, apart: u64, floods: bool) -> Count {
-    let mut t = instant(h % 24 * 3600);
-    let mut c = none();
-    let mut i: u64 = 0;
-    while i < n {
-        c = attempt(c, words, t, i, floods);
-        t = std::num::wrapping_add_u64(t, apart);
-        i += 1;
-    }
-    c
 }

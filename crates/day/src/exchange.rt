@@ -20,6 +20,9 @@ use message::fields::Timestamp;
 // A nanosecond and a picosecond, times 2^16.
 const SCALE: u64 = 65536;
 
+// The nanoseconds of a second.
+const NANOS: u64 = refusal::SECOND_NANOS as u64;
+
 // The fibre's one way and the four latencies, in nanoseconds.
 const FIBRE: u64 = 24_480;
 
@@ -47,12 +50,22 @@ const LATENCY: u64 = 1000 * SCALE;
 // The two-step bit, of octet 6.
 const TWO_STEP: u16 = 0x0200;
 
-// How far our clock is ahead in an hour, in nanoseconds times 2^16: half as much each hour, and anew with each master.
-fn ahead(h: u64) -> u64 {
+// How far our clock is off in an hour, in nanoseconds times 2^16: half as much each hour, and anew with each master. It is ahead of the first
+// and behind the second.
+fn off(h: u64) -> u64 {
     if h < 13 {
         return 800 * SCALE >> h;
     }
     if h < 24 { 40 * SCALE >> (h - 13) } else { 0 }
+}
+
+// A time of our clock that would be `scaled` if it were not off.
+fn shown(scaled: u64, h: u64) -> u64 {
+    if h < 13 {
+        std::num::wrapping_add_u64(scaled, off(h))
+    } else {
+        std::num::wrapping_sub_u64(scaled, off(h))
+    }
 }
 
 // A message of a master's, written into a lent buffer.
@@ -93,7 +106,7 @@ fn origin_time(master: u64, h: u64) -> Stamp {
 fn fine(seconds: u64, scaled: u64) -> FineStamp {
     FineStamp {
         seconds,
-        nanos: (scaled / SCALE % 1_000_000_000) as u32,
+        nanos: (scaled / SCALE % NANOS) as u32,
         fraction: (scaled % SCALE) as u16,
     }
 }
@@ -102,11 +115,10 @@ fn fine(seconds: u64, scaled: u64) -> FineStamp {
 fn stamps(master: u64, h: u64) -> Stamps {
     let t1 = origin_time(master, h);
     let seconds = t1.seconds;
-    let ahead = ahead(h);
     Stamps {
         t1,
-        t2: fine(seconds, std::num::wrapping_add_u64(T2, ahead)),
-        t3: fine(seconds, std::num::wrapping_add_u64(T3, ahead)),
+        t2: fine(seconds, shown(T2, h)),
+        t3: fine(seconds, shown(T3, h)),
         t4: Stamp { seconds, nanos: T4 },
     }
 }

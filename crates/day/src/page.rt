@@ -1,9 +1,8 @@
-// The page that the day is told on: delays and offsets in nanoseconds, and decisions.
+// The page that the day is told on: delays and offsets in nanoseconds, refusals by name, decisions, and the hours of a port.
 use crate::text;
 use delay::Measurement;
 use delay::Offset;
 use delay::ScaledNs;
-use refusal::Refusal;
 
 // A second in nanoseconds times 2^16.
 const SECOND: u64 = 65_536_000_000_000;
@@ -16,9 +15,9 @@ fn thousandths(value: u64) {
     text::say(&[b'.', hundreds, tens, ones]);
 }
 
-// Nanoseconds times 2^16 as nanoseconds and picoseconds, at the right end of a column.
-fn nanoseconds(scaled: u64, width: usize) {
-    text::right(scaled / 65536, width);
+// Nanoseconds times 2^16 as nanoseconds and picoseconds behind a sign, at the right end of a column.
+fn nanoseconds(sign: &[u8], scaled: u64, width: usize) {
+    text::signed(sign, scaled / 65536, width);
     thousandths(scaled % 65536 * 1000 / 65536);
 }
 
@@ -28,29 +27,39 @@ fn behind(rest: u64) -> u64 {
 }
 
 // An offset below a second: ahead as it is, behind with a minus.
-fn offset(x: Offset) {
+fn offset(x: Offset, width: usize) {
     if x.seconds == 0 {
-        nanoseconds(x.rest, 9);
+        nanoseconds(b"", x.rest, width);
+    } else if x.seconds == -1 {
+        nanoseconds(b"-", behind(x.rest), width);
     } else {
-        text::say(b" -");
-        nanoseconds(behind(x.rest), 7);
+        text::say(b"  over a second");
     }
 }
 
 // The offset of a measurement; a dash where there is none.
-pub fn measured(m: Measurement) {
+pub fn measured(m: Measurement, width: usize) {
     match m {
-        Measurement::Measured(_, x) => offset(x),
-        Measurement::Refused(_) => text::say(b"            -"),
+        Measurement::Measured(_, x) => offset(x, width),
+        Measurement::Refused(_) => text::say(b" -"),
+    }
+}
+
+// A delay, with a minus where it is below zero.
+fn delay(d: ScaledNs) {
+    if d.0 < 0 {
+        nanoseconds(b"-", std::num::wrapping_sub_u64(0, octets::bits64(d.0)), 2);
+    } else {
+        nanoseconds(b"", octets::bits64(d.0), 2);
     }
 }
 
 // A delay, and the offset that goes with it.
 fn both(d: ScaledNs, x: Offset) {
     text::say(b"delay");
-    nanoseconds(octets::bits64(d.0), 2);
+    delay(d);
     text::say(b" ns, offset");
-    nanoseconds(x.rest, 2);
+    offset(x, 2);
     text::say(b" ns\n");
 }
 
@@ -58,13 +67,36 @@ fn both(d: ScaledNs, x: Offset) {
 pub fn last_measured(m: Measurement) {
     match m {
         Measurement::Measured(d, x) => both(d, x),
-        Measurement::Refused(x) => refused(x),
+        Measurement::Refused(x) => {
+            refused(b"refused: ", refusal::number(x));
+            text::say(b"\n")
+        }
     }
 }
 
-// A refusal, by its number.
-pub fn refused(x: Refusal) {
-    text::number(b"refused ", refusal::number(x));
+// A refusal by its number and name, as `13 FULL`.
+pub fn refused(words: &[u8], number: u64) {
+    let k = (number % 19) as usize;
+    let sizes = [0usize, 5, 7, 4, 6, 5, 3, 5, 4, 6, 3, 8, 5, 4, 5, 8, 4, 4, 5];
+    let names = text::past(
+        b"        SHORT   VERSION TYPE    LENGTH  STAMP   TLV     WRBAD   PORT    DOMAIN  OWN     BACKWARDSTALE   FULL    RANGE   UNRANKEDROOM    MANY    FIELD   ",
+        k * 8,
+    );
+    text::number(words, number);
+    text::say(b" ");
+    text::say(text::front(names, sizes[k]));
+}
+
+// By which field a clock is worse, behind so many that are equal.
+pub fn field(equal: usize) {
+    let k = equal % 7;
+    let sizes = [9usize, 5, 8, 8, 9, 19, 12];
+    let names = text::past(
+        b"priority1          class              accuracy           variance           priority2          grandmasterIdentitya longer way       ",
+        k * 19,
+    );
+    text::say(b": worse by ");
+    text::say(text::front(names, sizes[k]));
 }
 
 // A decision by its number, 1 to 7.
@@ -75,41 +107,10 @@ pub fn decision(code: u8) {
     text::say(&[letters[k], digits[k]]);
 }
 
-// `  S1 on`, before the first port that changed to it.
-fn heading(code: u8) {
-    text::blanks(2);
-    decision(code);
-    text::say(b" on");
-}
-
-// A port that is told `code` now and was told something else, behind the heading where it is the first such port. The
-// answer says whether the next one would be the first.
-fn port_told(port: usize, before: u8, now: u8, code: u8, first: bool) -> bool {
-    if (now != code) | (before == code) {
-        return first;
-    }
-    if first {
-        heading(code);
-    }
-    text::number(b" ", port as u64);
-    false
-}
-
-// `S1 on 2`, where any port changed to it.
-fn told(before: &[u8; 18], now: &[u8; 18], code: u8) {
-    let mut first = true;
-    let mut i: usize = 0;
-    while i < 18 {
-        first = port_told(i + 1, before[i], now[i], code, first);
-        i += 1;
-    }
-}
-
-// What changed in the decisions, one after the other.
-pub fn changes(before: &[u8; 18], now: &[u8; 18]) {
-    let mut code: u8 = 1;
-    while code < 8 {
-        told(before, now, code);
-        code += 1;
-    }
+// An hour of a port in one letter: its decision, a capital where an Announce was refused in that hour.
+pub fn letter(code: u8, refused: u64) -> u8 {
+    let k = (code % 8) as usize;
+    let quiet = [b'-', b'm', b'm', b'm', b's', b'b', b'p', b'p'];
+    let loud = [b'-', b'M', b'M', b'M', b'S', b'B', b'P', b'P'];
+    if refused == 0 { quiet[k] } else { loud[k] }
 }

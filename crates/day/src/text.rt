@@ -15,6 +15,12 @@ pub fn front(s: &[u8], n: usize) -> &[u8] {
     &s[0..k]
 }
 
+// What is left behind the first n octets.
+pub fn past(s: &[u8], n: usize) -> &[u8] {
+    let k = least(n, s.len());
+    &s[k..]
+}
+
 // Words, as they stand.
 pub fn say(words: &[u8]) {
     io::write_all(STDOUT_FILENO, words);
@@ -42,10 +48,34 @@ fn room(digits: usize, width: usize) -> usize {
     if digits < width { width - digits } else { 1 }
 }
 
-// A number at the right end of a column, with a blank before it at least.
-pub fn right(value: u64, width: usize) {
+// A number at the right end of a column behind a sign, with a blank before it at least.
+pub fn signed(sign: &[u8], value: u64, width: usize) {
     let mut digits = [0u8; 20];
     let k = io::decimal(value, &mut digits);
-    blanks(room(k, width));
+    blanks(room(std::num::wrapping_add_usize(k, sign.len()), width));
+    say(sign);
     say(&digits[..k]);
+}
+
+// A number at the right end of a column, with a blank before it at least.
+pub fn right(value: u64, width: usize) {
+    signed(b"", value, width);
+}
+
+// Two digits.
+pub fn two(value: u64) {
+    let tens = b'0' + (value / 10 % 10) as u8;
+    let ones = b'0' + (value % 10) as u8;
+    say(&[tens, ones]);
+}
+
+// A time of the day in nanoseconds, as hours, minutes and seconds.
+pub fn moment(words: &[u8], t: u64) {
+    let seconds = t / 1_000_000_000;
+    say(words);
+    two(seconds / 3600);
+    say(b":");
+    two(seconds / 60 % 60);
+    say(b":");
+    two(seconds % 60);
 }

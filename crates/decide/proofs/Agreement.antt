@@ -7,6 +7,7 @@ use native.Mathlib.Omega.{arith}
 use lib.Dec.{ltb, leb, eqb}
 use lib.ListN.{length, getD}
 use borrow.Author.Tests.{ltb-true, ltb-false, eqb-true, eqb-false, eq-eqb}
+use Rattle.laws.proofs.Bools.{clash}
 use Rattle.refusal.specs.Choice.{pick}
 use Rattle.rank.specs.declared.PortIdentity.{PortIdentity}
 use Rattle.rank.specs.declared.Candidate.{Candidate}
@@ -57,9 +58,6 @@ same-true (x ∷ xs) [] h = cc
 same-true (x ∷ xs) (y ∷ ys) h =
     let b = both (eqb x y) (same xs ys) h in
     ap₂ _∷_ (eqb-true x y (b .0)) (same-true xs ys (b .1))
-
-clash : {G : Type 0} {b : Bool} → b ≡ true → b ≡ false → G
-clash {G} {b} p q = absurd (let z : _≡_ {A = ℕ} 0 1 = cc in omega arith)
 
 -- first keys that differ decide
 front : (xs ys l m : List ℕ) → length xs ≡ length ys → (xs ≡ ys → ⊥) → byRank (xs ++ l) (ys ++ m) ≡ pick (lex xs ys) first second

@@ -66,6 +66,15 @@ pub one-step-error-1 : compareOf (set (cand (clock 1 248 7) 1 7 1)) (set (cand (
 unfolding compareOf sameOf fewerOf
 one-step-error-1 = refl
 
+-- differing by two: better, whatever its receiver and sender are
+pub two-steps-better : compareOf (set (cand (clock 1 248 7) 1 7 1)) (set (cand (clock 1 248 7) 3 99 2)) ≡ ABetter
+unfolding compareOf sameOf fewerOf
+two-steps-better = refl
+
+pub two-steps-no-error : compareOf (set (cand (clock 1 248 7) 3 100 1)) (set (cand (clock 1 248 7) 1 7 1)) ≡ BBetter
+unfolding compareOf sameOf fewerOf
+two-steps-no-error = refl
+
 -- equal steps: the sender, then the receiver's port number, whatever the receiver's clock
 pub lower-sender : compareOf (set (cand (clock 1 248 7) 1 8 1)) (set (cand (clock 1 248 7) 1 7 2)) ≡ BBetterByTopology
 unfolding compareOf sameOf evenOf

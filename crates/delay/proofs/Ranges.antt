@@ -1,12 +1,13 @@
 -- The limits: each test holds exactly where its claim does.
 use mathlib.Core.Path.{_≡_, ap₂}
-use mathlib.Core.Bool.{Bool, true, false, _&&_}
+use mathlib.Core.Bool.{Bool, true, false, _&&_, and-false}
 use Prim.Native.Nat.{ℕ, _^_}
 use lib.Dec.{ltb}
 use lib.IntN.{_-ℤ_}
 use borrow.Author.Tests.{ltb-true, lt-ltb}
+use Rattle.laws.proofs.Bools.{both}
 use Rattle.signed.specs.Limits.{within}
-use Rattle.signed.proofs.Ranges.{and-fst, and-snd, and-false, within-claim, claim-within}
+use Rattle.signed.proofs.Ranges.{within-claim, claim-within}
 use Rattle.delay.specs.declared.Stamps.{Stamps}
 use Rattle.delay.specs.declared.Corrections.{Corrections}
 use Rattle.delay.specs.declared.Latencies.{Latencies}
@@ -15,17 +16,17 @@ use Rattle.delay.specs.Delay.{t1, t2, t3, t4}
 use Rattle.delay.specs.Range.{correctionsGood, differencesGood, latencyGood, latenciesGood, stampGood, stampsGood, inputsGood, inRange, StampIn, StampsIn, CorrectionsIn, LatenciesIn, InputsIn, InRange}
 
 and3 : (a b c : Bool) → a && b && c ≡ true → (a ≡ true) × (b ≡ true) × (c ≡ true)
-and3 a b c e = let p = and-fst (a && b) c e in (and-fst a b p, and-snd a b p, and-snd (a && b) c e)
+and3 a b c e = let p = both (a && b) c e in let q = both a b (p .0) in (q .0, q .1, p .1)
 
 and4 : (a b c d : Bool) → a && b && c && d ≡ true → (a ≡ true) × (b ≡ true) × (c ≡ true) × (d ≡ true)
-and4 a b c d e = let p = and3 a b c (and-fst (a && b && c) d e) in (p .0, p .1, p .2, and-snd (a && b && c) d e)
+and4 a b c d e = let p = both (a && b && c) d e in let q = and3 a b c (p .0) in (q .0, q .1, q .2, p .1)
 
 stamp-told : (s n : ℕ) → stampGood s n ≡ true → StampIn s n
 unfolding stampGood
 stamp-told s n e =
     let p = ltb s (2 ^ 48) in
     let q = ltb n 1000000000 in
-    record { seconds = ltb-true s (2 ^ 48) (and-fst p q e); nanos = ltb-true n 1000000000 (and-snd p q e) }
+    record { seconds = ltb-true s (2 ^ 48) (both p q e .0); nanos = ltb-true n 1000000000 (both p q e .1) }
 
 stamp-yes : {s n : ℕ} → StampIn s n → stampGood s n ≡ true
 unfolding stampGood
@@ -86,13 +87,13 @@ inputs-yes {x} h =
 pub range-told : (x : Exchange) → inRange x ≡ true → InRange x
 unfolding inRange differencesGood
 range-told x e =
-    let d = and-snd (inputsGood x) (differencesGood x) e in
+    let d = both (inputsGood x) (differencesGood x) e .1 in
     let outer = within 47 (t4 x -ℤ t1 x) in
     let inner = within 47 (t3 x -ℤ t2 x) in
     record {
-      inputs = inputs-told x (and-fst (inputsGood x) (differencesGood x) e);
-      outer = within-claim 47 _ (and-fst outer inner d);
-      inner = within-claim 47 _ (and-snd outer inner d);
+      inputs = inputs-told x (both (inputsGood x) (differencesGood x) e .0);
+      outer = within-claim 47 _ (both outer inner d .0);
+      inner = within-claim 47 _ (both outer inner d .1);
     }
 
 pub range-yes : {x : Exchange} → InRange x → inRange x ≡ true

@@ -2,6 +2,7 @@
 -- nanoseconds times 2^16.
 use Prim.Native.Nat.{ℕ, _+_, _*_, _^_}
 use lib.IntN.{ℤ, pos, _+ℤ_, _-ℤ_, _*ℤ_}
+use Rattle.refusal.specs.Limits.{secondNanos}
 use Rattle.signed.specs.Floor.{floor, rest}
 use Rattle.delay.specs.declared.Stamp.{Stamp}
 use Rattle.delay.specs.declared.FineStamp.{FineStamp}
@@ -11,11 +12,11 @@ use Rattle.delay.specs.declared.Offset.{Offset}
 
 -- "A correction counts nanoseconds times 2^16": a stamp as corrections count
 abbrev pub coarse : Stamp → ℕ
-coarse s = (s .seconds * 1000000000 + s .nanos) * 65536
+coarse s = (s .seconds * secondNanos + s .nanos) * 65536
 
 -- "t2 and t3 have a 16-bit fraction of a nanosecond too"
 abbrev pub fine : FineStamp → ℕ
-fine s = (s .seconds * 1000000000 + s .nanos) * 65536 + s .fraction
+fine s = (s .seconds * secondNanos + s .nanos) * 65536 + s .fraction
 
 -- "t1 has the Sync and Follow_Up corrections added"
 unfoldable pub t1 : Exchange → ℤ

@@ -3,6 +3,7 @@ use Prim.Native.Nat.{ℕ, _^_, _<_}
 use mathlib.Core.Bool.{Bool, _&&_}
 use lib.Dec.{ltb}
 use lib.IntN.{_-ℤ_}
+use Rattle.refusal.specs.Limits.{secondNanos}
 use Rattle.signed.specs.Limits.{within, Within}
 use Rattle.delay.specs.declared.ScaledPs.{ScaledPs}
 use Rattle.delay.specs.declared.Stamps.{Stamps}
@@ -27,7 +28,7 @@ latenciesGood l = latencyGood (l .mtx) && latencyGood (l .mrx) && latencyGood (l
 
 -- "Stamps with 10^9 nanoseconds or more, or seconds of 2^48 or more, also give 14."
 unfoldable pub stampGood : ℕ → ℕ → Bool
-stampGood seconds nanos = ltb seconds (2 ^ 48) && ltb nanos 1000000000
+stampGood seconds nanos = ltb seconds (2 ^ 48) && ltb nanos secondNanos
 
 unfoldable pub stampsGood : Stamps → Bool
 stampsGood s =
@@ -50,7 +51,7 @@ inRange x = inputsGood x && differencesGood x
 -- the same limits as claims
 pub record StampIn (s n : ℕ) : Type 0 where
   pub seconds : s < 2 ^ 48
-  pub nanos : n < 1000000000
+  pub nanos : n < secondNanos
 
 pub record StampsIn (s : Stamps) : Type 0 where
   pub t1 : StampIn (s .t1 .seconds) (s .t1 .nanos)

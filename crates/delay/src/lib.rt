@@ -10,7 +10,7 @@ ghost use Prim.Native.Nat.{_+_, _*_, _^_, _≤_, _<_};
 ghost use Rattle.signed.specs.Limits.{within, Within};
 ghost use Rattle.delay.specs.Delay.{fine, t1, t2, t3, t4, inNs, delay, inSeconds};
 ghost use Rattle.delay.specs.Range.{correctionsGood, latencyGood, latenciesGood, stampGood, stampsGood, inputsGood, StampIn, LatenciesIn, InputsIn};
-ghost use Rattle.delay.specs.Answer.{measureOf, codeOf};
+ghost use Rattle.delay.specs.Answer.{measureOf};
 ghost use Rattle.delay.specs.Inside.{timeOf, Fair, TimeIs, SpanIs, MIs, ShareIs, DelayIs};
 
 // Nanoseconds times 2^16: corrections, D, the delay.
@@ -148,7 +148,7 @@ fn latencies_good(l: Latencies) -> bool
 fn stamp_good(seconds: u64, nanos: u32) -> bool
     ensures { λ r. ⌜ r ≡ stampGood seconds nanos ⌝ }
 {
-    (seconds < SECONDS) & (nanos < 1_000_000_000)
+    (seconds < SECONDS) & (nanos < refusal::SECOND_NANOS)
 }
 
 // Whether all four stamps are good.
@@ -395,14 +395,4 @@ pub fn measure(x: Exchange) -> Measurement
     let t2 = x.stamps.t2;
     let offset = offset_of(slave_time(t2), t1(x), delay);
     Measurement::Measured(lowered(delay), offset)
-}
-
-// 0 where there is a delay, else the refusal's number: what a host written in C is handed.
-pub fn code(m: Measurement) -> u64
-    ensures { λ r. ⌜ r ≡ codeOf m ⌝ }
-{
-    match m {
-        Measurement::Measured(_, _) => 0,
-        Measurement::Refused(r) => refusal::number(r),
-    }
 }

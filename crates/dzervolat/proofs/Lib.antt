@@ -1,3 +1,4 @@
 pub mod Left
 pub mod Refused
+pub mod Ignored
 pub mod Determined

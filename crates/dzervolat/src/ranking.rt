@@ -70,7 +70,12 @@ pub extern "C" fn dz_decide(
 }
 
 // Every port decided where our own quality's words fit; where they do not, the list alone, and no decision is written.
-fn elected(ports: &[u64; 1764], t: u64, own: &[u64; 6], decisions: &mut [u8; 18]) -> Ranking
+fn elected(
+    ports: &[u64; ports::WORDS],
+    t: u64,
+    own: &[u64; 6],
+    decisions: &mut [u8; refusal::PORTS],
+) -> Ranking
     ensures answer { λ r. ⌜ r ≡ electedBy (now (own .entry)) (now (ports .entry)) t ⌝ }
     ensures octets { λ _. ⌜ now (decisions .exit) ≡ decisionsAfter (now (own .entry)) (now (ports .entry)) t (now (decisions .entry)) ⌝ }
 {
@@ -84,10 +89,10 @@ fn elected(ports: &[u64; 1764], t: u64, own: &[u64; 6], decisions: &mut [u8; 18]
 // Every port's decision at a time, from the ports' words and our own quality; and the ranked list of all ports.
 #[no_mangle]
 pub extern "C" fn dz_decide_all(
-    ports: &[u64; 1764],
+    ports: &[u64; ports::WORDS],
     t: u64,
     own: &[u64; 6],
-    decisions: &mut [u8; 18],
+    decisions: &mut [u8; refusal::PORTS],
     list: &mut [u64; 45],
 ) -> u64
     ensures answer { λ r. ⌜ r ≡ codeOf (electedBy (now (own .entry)) (now (ports .entry)) t .outcome) ⌝ }

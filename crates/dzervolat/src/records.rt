@@ -14,7 +14,7 @@ use ports::intake::Settings;
 // Takes the Announce in `octets` on a port at time `t`.
 #[no_mangle]
 pub extern "C" fn dz_take(
-    ports: &mut [u64; 1764],
+    ports: &mut [u64; ports::WORDS],
     port: u64,
     t: u64,
     octets: &[u8],
@@ -37,7 +37,7 @@ pub extern "C" fn dz_take(
 // The candidate in a slot of a port at time `t`: 1 and its eleven words, or zeros.
 #[no_mangle]
 pub extern "C" fn dz_candidate(
-    ports: &[u64; 1764],
+    ports: &[u64; ports::WORDS],
     port: u64,
     slot: usize,
     t: u64,
@@ -52,7 +52,12 @@ pub extern "C" fn dz_candidate(
 
 // The best of a port's candidates at time `t`: 1 and its eleven words, or zeros.
 #[no_mangle]
-pub extern "C" fn dz_best(ports: &[u64; 1764], port: u64, t: u64, found: &mut [u64; 12]) -> u64
+pub extern "C" fn dz_best(
+    ports: &[u64; ports::WORDS],
+    port: u64,
+    t: u64,
+    found: &mut [u64; 12],
+) -> u64
     ensures answer { λ r. ⌜ r ≡ askedCode (bestOn (now (ports .entry)) (portOf port) t) ⌝ }
     ensures words { λ _. ⌜ now (found .exit) ≡ askedWords (bestOn (now (ports .entry)) (portOf port) t) (now (found .entry)) ⌝ }
 {
@@ -62,7 +67,7 @@ pub extern "C" fn dz_best(ports: &[u64; 1764], port: u64, t: u64, found: &mut [u
 
 // A port's last accepted time and its interval's exponent.
 #[no_mangle]
-pub extern "C" fn dz_status(ports: &[u64; 1764], port: u64, status: &mut [u64; 2]) -> u64
+pub extern "C" fn dz_status(ports: &[u64; ports::WORDS], port: u64, status: &mut [u64; 2]) -> u64
     ensures answer { λ r. ⌜ r ≡ statusCode (statusOf (now (ports .entry)) (portOf port)) ⌝ }
     ensures words { λ _. ⌜ now (status .exit) ≡ statusWords (statusOf (now (ports .entry)) (portOf port)) (now (status .entry)) ⌝ }
 {
@@ -73,7 +78,7 @@ pub extern "C" fn dz_status(ports: &[u64; 1764], port: u64, status: &mut [u64; 2
 // The record in a slot of a port: 1 and what it holds, or zeros.
 #[no_mangle]
 pub extern "C" fn dz_record(
-    ports: &[u64; 1764],
+    ports: &[u64; ports::WORDS],
     port: u64,
     slot: usize,
     held: &mut [u64; 15],
@@ -87,7 +92,7 @@ pub extern "C" fn dz_record(
 
 // Sets a port's announce interval to 2^k seconds.
 #[no_mangle]
-pub extern "C" fn dz_set_interval(ports: &mut [u64; 1764], port: u64, k: i8) -> u64
+pub extern "C" fn dz_set_interval(ports: &mut [u64; ports::WORDS], port: u64, k: i8) -> u64
     ensures answer { λ r. ⌜ r ≡ codeOf (intervalSet (portOf port) k) ⌝ }
     ensures words { λ _. ⌜ now (ports .exit) ≡ intervalAfter (now (ports .entry)) (portOf port) k ⌝ }
 {

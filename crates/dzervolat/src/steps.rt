@@ -45,8 +45,7 @@ fn step(links: &mut [u64; 72], port: u64, e: Event, step: &mut [u64; 18]) -> u64
     ensures step { λ _. ⌜ now (step .exit) ≡ takenWords (takeAnswer (now (links .entry)) (portOf port) e) (now (step .entry)) ⌝ }
 {
     let p = words::port_of(port);
-    let t = links::take(links, p, e);
-    link_words::put_taken(step, t)
+    link_words::events::take(links, p, e, step)
 }
 
 // A start, with the parent's config and mode.

@@ -24,7 +24,7 @@ use Rattle.decide.specs.declared.Answer.the-variants.{Decided}
 use Rattle.decide.specs.Deciding.{decideOf}
 use Rattle.election.specs.Elected.{everyPort, anyLate, heardOn, electedOf}
 use Rattle.election.specs.Decisions.{erbestOf, listAt, decisionAt}
-use Rattle.election.specs.Cards.{Cards, card, join, portsOf, gatheredOf, Small, Covers}
+use Rattle.election.specs.Cards.{Cards, card, join, portsOf, gatheredOf, FewPorts, Covers}
 use Rattle.election.proofs.Electing.{Ports, every-port, heard-passes, heard-valid}
 use Rattle.election.proofs.Deciding.{decided}
 
@@ -82,7 +82,7 @@ module _ (ws : List ℕ) (t : ℕ) where
       (λ k. heard-within ps qs (λ q n. h q (List·Memᴰ·tail n)) c k)
 
   -- a tree of cards gives the ranked list of all that their ports hear
-  gathers : (c : Cards) → Small c → Ports (portsOf c) → gatheredOf ws t c ≡ doneOf (rankOf (heardOn ws t (portsOf c)))
+  gathers : (c : Cards) → FewPorts c → Ports (portsOf c) → gatheredOf ws t c ≡ doneOf (rankOf (heardOn ws t (portsOf c)))
   gathers (card ps) s h = ranked (heardOn ws t ps) (heard-passes ws t ps h) (omega (arith, heard-few ps))
   gathers (join l r) s h =
       let hl = ports-left (portsOf l) (portsOf r) h in

@@ -7,6 +7,7 @@ use mathlib.Core.Bool.{Bool, true, false, _&&_, _||_}
 use lib.Dec.{ltb, leb}
 use lib.ListN.{getD}
 use borrow.Author.Tests.{le-leb, eq-eqb}
+use Rattle.laws.proofs.Bools.{neither}
 use Rattle.refusal.specs.Choice.{pick, refuse}
 use Rattle.refusal.specs.declared.Refusal.{Refusal}
 use Rattle.refusal.specs.declared.Refusal.the-variants.{Backward}
@@ -47,10 +48,6 @@ pub decides : (own : Grandmaster) (list : Ranked) (port : ℕ) (best : Erbest) �
     → decideOf own list port best ≡ Decided (decisionOf own (unpack list) port best)
 unfolding refuse
 decides own list port best h k = rw (h, k)
-
-neither : (b t : Bool) → (b || t) ≡ false → (b ≡ false) × (t ≡ false)
-neither true t h = (h, cc)
-neither false t h = (refl, h)
 
 -- where no port is late, none of them is
 pub none-late : (ws : List ℕ) (t : ℕ) (ps : List ℕ) → anyLate ws t ps ≡ false → All (λ p. ltb t (portAt ws p .last) ≡ false) ps

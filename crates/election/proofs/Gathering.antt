@@ -14,7 +14,7 @@ use Rattle.rank.specs.declared.Candidate.{Candidate}
 use Rattle.rank.specs.declared.Ranked.{Ranked}
 use Rattle.rank.specs.Order.{earlierOf}
 use Rattle.rank.specs.Best.{best, put, sink, insert}
-use Rattle.rank.specs.Ranked.{isPort, portOf, pack, holdsOf}
+use Rattle.rank.specs.Ranked.{isPort, receiverOf, pack, holdsOf}
 use Rattle.rank.proofs.Best.{All, Good, Under, Away, cases, rank-step, rank-good, rank-swap}
 use Rattle.rank.proofs.Order.{ordered}
 use Rattle.rank.proofs.Merging.{R, defined}
@@ -140,13 +140,13 @@ laid-on (y ∷ m) (b ∷ bs) zero x d h k e = ap (λ (z : Candidate). z ∷ bs) 
 laid-on (y ∷ m) (b ∷ bs) (suc i) x d h k e = ap (λ (l : List Candidate). y ∷ l) (laid-on m bs i x d (omega arith) (omega arith) e)
 
 -- ---- going down a list that has no candidate of the port is being put in order
-sink-first : (p : ℕ) (x : Candidate) (l : List Candidate) → Under earlierOf portOf x l → Good earlierOf portOf l → Away earlierOf portOf p l
-    → sink earlierOf portOf p x l ≡ x ∷ l
+sink-first : (p : ℕ) (x : Candidate) (l : List Candidate) → Under earlierOf receiverOf x l → Good earlierOf receiverOf l → Away earlierOf receiverOf p l
+    → sink earlierOf receiverOf p x l ≡ x ∷ l
 sink-first p x [] u g a = refl
 sink-first p x (y ∷ l) u g a = simp (u .0, a .0, sink-first p y l (g .0) (g .2) (a .1))
 
-sink-put : (p : ℕ) (x : Candidate) (l : List Candidate) → Good earlierOf portOf l → Away earlierOf portOf p l
-    → sink earlierOf portOf p x l ≡ put earlierOf portOf x l
+sink-put : (p : ℕ) (x : Candidate) (l : List Candidate) → Good earlierOf receiverOf l → Away earlierOf receiverOf p l
+    → sink earlierOf receiverOf p x l ≡ put earlierOf receiverOf x l
 sink-put p x [] g a = refl
 sink-put p x (y ∷ l) g a =
     cases (earlierOf x y)
@@ -197,7 +197,7 @@ module _ (ws : List ℕ) where
   listed-holds p (a ∷ l) =
       ap (λ (k : ℕ). eqb k p || listedIn p l) (sym (port-is a)) ∙ ap (λ (b : Bool). eqb (c a .port) p || b) (listed-holds p l)
 
-  among : (a : ℕ) (l : List ℕ) → map c (take (rankAmong ws a l) l ++ a ∷ drop (rankAmong ws a l) l) ≡ put earlierOf portOf (c a) (map c l)
+  among : (a : ℕ) (l : List ℕ) → map c (take (rankAmong ws a l) l ++ a ∷ drop (rankAmong ws a l) l) ≡ put earlierOf receiverOf (c a) (map c l)
   unfolding rankAmong
   among a [] = refl
   among a (b ∷ l) =
@@ -246,18 +246,18 @@ module _ (ws : List ℕ) where
   unfolding rankAmong
   rank-end a = refl
 
-  away : (a : ℕ) (l : List ℕ) → Each (Below a) l → Away earlierOf portOf (c a .port) (map c l)
+  away : (a : ℕ) (l : List ℕ) → Each (Below a) l → Away earlierOf receiverOf (c a .port) (map c l)
   away a [] h = tt
   away a (b ∷ l) h = (ne-eqb (c b .port) (c a .port) (λ e. let f = sym (port-is b) ∙ e ∙ port-is a in let k = h .0 .1 in omega arith), away a l (h .1))
 
   -- A PLACE PUT AMONG THOSE OF A RANKED LIST GIVES THOSE OF THE RANKED LIST WITH ITS CANDIDATE
   put-rank : (a : ℕ) (l : List ℕ) (s : List Candidate) → Each (Below a) l → map c l ≡ R s → map c (putAt (rankAmong ws a l) a l) ≡ R (c a ∷ s)
   put-rank a l s h e =
-      let g = rank-good earlierOf portOf ordered 4 s in
-      let w : Away earlierOf portOf (c a .port) (R s) = subst (Away earlierOf portOf (c a .port)) e (away a l h) in
+      let g = rank-good earlierOf receiverOf ordered 4 s in
+      let w : Away earlierOf receiverOf (c a .port) (R s) = subst (Away earlierOf receiverOf (c a .port)) e (away a l h) in
       map-take c 4 (take (rankAmong ws a l) l ++ a ∷ drop (rankAmong ws a l) l)
-      ∙ ap (take 4) (among a l ∙ ap (put earlierOf portOf (c a)) e ∙ sym (sink-put (c a .port) (c a) (R s) g w))
-      ∙ sym (rank-step earlierOf portOf ordered 4 (c a) s)
+      ∙ ap (take 4) (among a l ∙ ap (put earlierOf receiverOf (c a)) e ∙ sym (sink-put (c a .port) (c a) (R s) g w))
+      ∙ sym (rank-step earlierOf receiverOf ordered 4 (c a) s)
 
   module _ (t : ℕ) where
     abbrev candidates : ℕ → List Candidate
@@ -325,10 +325,10 @@ module _ (ws : List ℕ) where
       unfolding bestOf
       with-rank p l s i h e =
           let a = placeOn ws p t in
-          let b = best earlierOf portOf p (candidates p) in
+          let b = best earlierOf receiverOf p (candidates p) in
           let own = own-candidates p (portAt ws p) t in
           let found = best-at p i ws t words in
-          let counts : R (b ++ s) ≡ R (s ++ candidates p) = sym (best-counts p (candidates p) s own) ∙ rank-swap earlierOf portOf ordered 4 (candidates p) s in
+          let counts : R (b ++ s) ≡ R (s ++ candidates p) = sym (best-counts p (candidates p) s own) ∙ rank-swap earlierOf receiverOf ordered 4 (candidates p) s in
           cases (eqb a 0)
           (λ k.
           let n : headOf b ≡ Absent = sym found ∙ rw k in

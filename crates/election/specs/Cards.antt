@@ -3,6 +3,7 @@
 use Prim.Native.Nat.{ℕ, _≤_}
 use mathlib.Core.List.{List, _++_, List·Memᴰ}
 use lib.ListN.{length}
+use Rattle.refusal.specs.Limits.{portCount}
 use Rattle.rank.specs.declared.Ranking.{Ranking}
 use Rattle.rank.specs.Calls.{rankingOf, mergeOf}
 use Rattle.election.specs.Elected.{everyPort, heardOn}
@@ -22,12 +23,12 @@ gatheredOf ws t (card ps) = rankingOf (heardOn ws t ps)
 gatheredOf ws t (join l r) = mergeOf (gatheredOf ws t l .list) (gatheredOf ws t r .list)
 
 -- no card has more ports than the clock, so that none hears more than 288 candidates
-abbrev pub Small : Cards → Type 0
-Small (card ps) = length ps ≤ 18
-Small (join l r) = Small l × Small r
+abbrev pub FewPorts : Cards → Type 0
+FewPorts (card ps) = length ps ≤ portCount
+FewPorts (join l r) = FewPorts l × FewPorts r
 
 -- every port is on a card, in any order and on as many as one likes, and nothing else is
 pub record Covers (c : Cards) : Type 0 where
-  pub small : Small c
+  pub small : FewPorts c
   pub every : (p : ℕ) → List·Memᴰ p everyPort → List·Memᴰ p (portsOf c)
   pub only : (p : ℕ) → List·Memᴰ p (portsOf c) → List·Memᴰ p everyPort

@@ -4,6 +4,7 @@ use Prim.Native.Nat.{ℕ, suc}
 use mathlib.Core.List.{List, [], _∷_}
 use mathlib.Core.Bool.{Bool, not, _&&_, _||_}
 use lib.Dec.{leb}
+use Rattle.refusal.specs.Limits.{portCount}
 use Rattle.refusal.specs.Choice.{pick, refuse}
 use Rattle.refusal.specs.declared.Refusal.the-variants.{Unranked}
 use Rattle.rank.specs.declared.Grandmaster.{Grandmaster}
@@ -51,7 +52,7 @@ decisionAt own ws t p = decisionOf own (listAt ws t) p (erbestOf (bestOf p (port
 
 -- each port's number, port 1 first
 abbrev pub octetsAt : Grandmaster → List ℕ → ℕ → List ℕ
-octetsAt own ws t = tab 18 (λ i. codeOf (decisionAt own ws t (suc i)))
+octetsAt own ws t = tab portCount (λ i. codeOf (decisionAt own ws t (suc i)))
 
 -- "State, output buffers and input stay as they were.", or every port's number
 abbrev pub outAfter : Grandmaster → List ℕ → ℕ → List ℕ → List ℕ

@@ -3,6 +3,7 @@ use Prim.Native.Nat.{ℕ, suc}
 use mathlib.Core.List.{List, [], _∷_, _++_}
 use mathlib.Core.Bool.{Bool, false, _||_}
 use lib.Dec.{ltb}
+use Rattle.refusal.specs.Limits.{portCount}
 use Rattle.refusal.specs.Choice.{refuse}
 use Rattle.refusal.specs.declared.Refusal.the-variants.{Backward}
 use Rattle.rank.specs.declared.Candidate.{Candidate}
@@ -14,7 +15,7 @@ use Rattle.ports.specs.Words.{portAt}
 
 -- the ports of the clock, 1 to 18
 abbrev pub everyPort : List ℕ
-everyPort = tab 18 suc
+everyPort = tab portCount suc
 
 -- "time below this port's last accepted time", of one of the ports
 unfoldable pub anyLate : List ℕ → ℕ → List ℕ → Bool

@@ -5,11 +5,14 @@ use mathlib.Core.List.{List, [], _∷_, _++_, map}
 use mathlib.Core.Bool.{Bool, false, _||_}
 use lib.Dec.{eqb, ltb}
 use lib.ListN.{length, take, drop}
+use Rattle.refusal.specs.Limits.{portCount}
 use Rattle.refusal.specs.Choice.{pick}
 use Rattle.rank.specs.declared.Grandmaster.{Grandmaster}
 use Rattle.rank.specs.declared.Candidate.{Candidate}
 use Rattle.rank.specs.Order.{earlierOf}
 use Rattle.senders.specs.Port.{tab}
+use Rattle.slots.specs.Words.{portWords}
+use Rattle.ports.specs.Words.{allWords}
 use Rattle.ports.specs.Places.{placeOn, portBy, candidateAt, foundAt}
 use Rattle.decide.specs.declared.Lead.{Lead}
 use Rattle.decide.specs.Leading.{ledOf}
@@ -43,7 +46,7 @@ gather ws t l (p ∷ ps) = gather ws t (withPlace ws l (placeOn ws p t)) ps
 
 -- each port's place
 abbrev pub placesAt : List ℕ → ℕ → List ℕ
-placesAt ws t = tab 18 (λ i. placeOn ws (suc i) t)
+placesAt ws t = tab portCount (λ i. placeOn ws (suc i) t)
 
 -- one of some places is of port p
 abbrev pub listedIn : ℕ → List ℕ → Bool
@@ -61,28 +64,28 @@ Each P (x ∷ xs) = P x × Each P xs
 
 -- a record lies in the words
 abbrev pub Inside : ℕ → Type 0
-Inside a = a + 6 ≤ 1764
+Inside a = a + 6 ≤ allWords
 
 -- and its port is below that of another
 abbrev pub Below : ℕ → ℕ → Type 0
-Below a b = Inside b × (b / 98 < a / 98)
+Below a b = Inside b × (b / portWords < a / portWords)
 
 -- a place that can be compared with those of a top
 pub record Comes (ws : List ℕ) (a : ℕ) (top : Top) : Type 0 where
-  pub words : length ws ≡ 1764
+  pub words : length ws ≡ allWords
   pub inside : Inside a
   pub small : top .len ≤ 4
   pub below : Each (Below a) (topOf top)
 
 -- the same of a place that is one
 pub record Joins (ws : List ℕ) (a : ℕ) (top : Top) : Type 0 where
-  pub words : length ws ≡ 1764
+  pub words : length ws ≡ allWords
   pub inside : Inside a
   pub small : top .len ≤ 4
   pub below : (a ≡ 0 → ⊥) → Each (Below a) (topOf top)
 
 -- a top whose candidates can be taken out of the words
 pub record Held (ws : List ℕ) (top : Top) : Type 0 where
-  pub words : length ws ≡ 1764
+  pub words : length ws ≡ allWords
   pub small : top .len ≤ 4
   pub inside : Each Inside (topOf top)

@@ -14,6 +14,8 @@ ghost use Rattle.ports.specs.Places.{candidateAt, foundAt};
 ghost use Rattle.election.specs.Elected.{everyPort, anyLate, electedOf};
 ghost use Rattle.election.specs.Decisions.{codeOf, erbestOf, outAfter, parentOf, chosenBy, followedBy};
 ghost use Rattle.election.specs.Places.{topOf, rankAmong, putAt, grownOf, withPlace, gather, placesAt, listedIn, octetBy, Each, Inside, Comes, Joins, Held};
+ghost use Rattle.refusal.specs.Limits.{portCount};
+ghost use Rattle.ports.specs.Words.{allWords};
 use decide::Answer;
 use decide::Decision;
 use decide::Erbest;
@@ -26,7 +28,7 @@ use refusal::Outcome;
 use refusal::Refusal;
 
 // The ports of the clock are numbered from 1 to this.
-const PORTS: u8 = 18;
+const PORTS: u8 = refusal::PORTS as u8;
 
 // A refusal, with the empty list.
 fn refused(x: Refusal) -> Ranking
@@ -119,7 +121,7 @@ fn with_place(words: &[u64], top: Top, a: usize) -> Top
 
 // Asks each port for its best at `t`: the place of each, and those of the four best of all.
 fn listen(words: &[u64], t: u64, places: &mut [usize]) -> Top
-    requires { ⌜ (length (now words) ≡ 1764) × (length (now places) ≡ 18) ⌝ }
+    requires { ⌜ (length (now words) ≡ allWords) × (length (now places) ≡ portCount) ⌝ }
     ensures top { λ r. ⌜ (topOf r ≡ gather (now (words .entry)) t [] everyPort) × (r .len ≤ 4) ⌝ }
     ensures places { λ _. ⌜ now (places .exit) ≡ placesAt (now (words .entry)) t ⌝ }
 {
@@ -156,7 +158,7 @@ fn list_of(words: &[u64], top: Top) -> Ranked
 
 // Whether `t` lies before the last accepted time of some port.
 fn late(words: &[u64], t: u64) -> bool
-    requires { ⌜ length (now words) ≡ 1764 ⌝ }
+    requires { ⌜ length (now words) ≡ allWords ⌝ }
     ensures { λ r. ⌜ r ≡ anyLate (now (words .entry)) t everyPort ⌝ }
 {
     let mut p: u8 = 1;
@@ -170,13 +172,13 @@ fn late(words: &[u64], t: u64) -> bool
 }
 
 fn elect_in(words: &[u64], t: u64) -> Ranking
-    requires { ⌜ length (now words) ≡ 1764 ⌝ }
+    requires { ⌜ length (now words) ≡ allWords ⌝ }
     ensures { λ r. ⌜ r ≡ electedOf (now (words .entry)) t everyPort ⌝ }
 {
     if late(words, t) {
         return refused(Refusal::Backward);
     }
-    let mut places = [0usize; 18];
+    let mut places = [0usize; refusal::PORTS];
     let top = listen(words, t, &mut places[..]);
     Ranking {
         outcome: Outcome::Done,
@@ -185,7 +187,7 @@ fn elect_in(words: &[u64], t: u64) -> Ranking
 }
 
 // The ranked list of all candidates of all ports at `t`: of each port the best alone can be in it.
-pub fn elect(words: &[u64; 1764], t: u64) -> Ranking
+pub fn elect(words: &[u64; ports::WORDS], t: u64) -> Ranking
     ensures { λ r. ⌜ r ≡ electedOf (now (words .entry)) t everyPort ⌝ }
 {
     elect_in(&words[..], t)
@@ -215,7 +217,7 @@ fn listed(top: Top, p: u8) -> bool
     let mut i: usize = 0;
     while i < n {
         let a = top.places[i];
-        if a / 98 + 1 == p as usize {
+        if a / slots::WORDS + 1 == p as usize {
             return true;
         }
         i += 1;
@@ -225,7 +227,7 @@ fn listed(top: Top, p: u8) -> bool
 
 // The candidate at a port's place, as deciding takes it.
 fn erbest(words: &[u64], a: usize) -> Erbest
-    requires { ⌜ (length (now words) ≡ 1764) × Inside a ⌝ }
+    requires { ⌜ (length (now words) ≡ allWords) × Inside a ⌝ }
     ensures { λ r. ⌜ r ≡ erbestOf (foundAt (now (words .entry)) a) ⌝ }
 {
     if a == 0 {
@@ -246,8 +248,8 @@ fn octet(words: &[u64], own: Grandmaster, lead: Lead, top: Top, p: u8, a: usize)
 
 // Writes each port's octet.
 fn write(words: &[u64], own: Grandmaster, lead: Lead, top: Top, places: &[usize], out: &mut [u8])
-    requires { ⌜ Held (now words) top × (length (now out) ≡ 18) × (length (now places) ≡ 18) × Each Inside (now places) ⌝ }
-    ensures { λ _. ⌜ now (out .exit) ≡ tab 18 (λ i. octetBy (now (words .entry)) own lead (topOf top) (suc i) (getD (now (places .entry)) i 0)) ⌝ }
+    requires { ⌜ Held (now words) top × (length (now out) ≡ portCount) × (length (now places) ≡ portCount) × Each Inside (now places) ⌝ }
+    ensures { λ _. ⌜ now (out .exit) ≡ tab portCount (λ i. octetBy (now (words .entry)) own lead (topOf top) (suc i) (getD (now (places .entry)) i 0)) ⌝ }
 {
     let mut p: u8 = 1;
     while p <= PORTS {
@@ -258,13 +260,13 @@ fn write(words: &[u64], own: Grandmaster, lead: Lead, top: Top, places: &[usize]
 }
 
 fn decide_in(words: &[u64], own: Grandmaster, t: u64, out: &mut [u8]) -> Ranking
-    requires { ⌜ (length (now words) ≡ 1764) × (length (now out) ≡ 18) ⌝ }
+    requires { ⌜ (length (now words) ≡ allWords) × (length (now out) ≡ portCount) ⌝ }
     ensures { λ r. ⌜ (r ≡ electedOf (now (words .entry)) t everyPort) × (now (out .exit) ≡ outAfter own (now (words .entry)) t (now (out .entry))) ⌝ }
 {
     if late(words, t) {
         return refused(Refusal::Backward);
     }
-    let mut places = [0usize; 18];
+    let mut places = [0usize; refusal::PORTS];
     let top = listen(words, t, &mut places[..]);
     let list = list_of(words, top);
     let lead = decide::leading(own, list);
@@ -276,7 +278,12 @@ fn decide_in(words: &[u64], own: Grandmaster, t: u64, out: &mut [u8]) -> Ranking
 }
 
 // Decides every port at `t`: the ranked list of all ports, and in `out` the number of each port's decision, port 1 first.
-pub fn decide_all(words: &[u64; 1764], own: Grandmaster, t: u64, out: &mut [u8; 18]) -> Ranking
+pub fn decide_all(
+    words: &[u64; ports::WORDS],
+    own: Grandmaster,
+    t: u64,
+    out: &mut [u8; refusal::PORTS],
+) -> Ranking
     ensures { λ r. ⌜ (r ≡ electedOf (now (words .entry)) t everyPort) × (now (out .exit) ≡ outAfter own (now (words .entry)) t (now (out .entry))) ⌝ }
 {
     decide_in(&words[..], own, t, &mut out[..])

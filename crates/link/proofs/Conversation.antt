@@ -3,10 +3,10 @@
 use Prim.Native.Nat.{ℕ, suc, _+_}
 use mathlib.Core.Path.{_≡_, refl, sym, subst}
 use mathlib.Core.Bool.{Bool, true, false, _&&_}
-use mathlib.Core.List.{List, [], _∷_}
+use mathlib.Core.List.{[], _∷_}
 use native.Mathlib.Omega.{arith}
+use Rattle.laws.proofs.Bools.{clash}
 use Rattle.refusal.specs.Choice.{pick}
-use Rattle.tlv.specs.declared.wr.LinkMessage.{LinkMessage}
 use Rattle.tlv.specs.declared.wr.LinkMessage.the-variants as message
 use Rattle.link.specs.declared.Role.{Role}
 use Rattle.link.specs.declared.Role.the-variants.{Slave, Master}
@@ -16,6 +16,7 @@ use Rattle.link.specs.declared.Link.{Link}
 use Rattle.link.specs.declared.Settings.{Settings}
 use Rattle.link.specs.Machine.{isIdle, CanSlave, CanMaster, onStart, onSlavePresent, calibrateOf, calibratedOf, waitsOf, inState, stepped}
 use Rattle.link.proofs.StepLaws.{idle-is}
+use Rattle.link.specs.Loss.{between, masterUpAlone}
 use Rattle.link.specs.Conversation.{World, Act, ToMaster, ToSlave, SlaveDone, MasterDone, waitsForHardware, Can, CanSome, act, Comes, begins, happenings, says, slavesWay, mastersWay}
 
 -- these settings, where calibration is needed or not
@@ -24,7 +25,7 @@ with needed s =
     record { config = s .config; calibrate = needed; retry = s .retry; period = s .period; tx = s .tx; rx = s .rx }
 
 blocked : {A : Type 0} (b : Bool) → b ≡ false → b ≡ true → A
-blocked b p q = let z : _≡_ {A = ℕ} 0 1 = cc in absurd (omega arith)
+blocked b p q = clash q p
 
 module _ (ours theirs : Settings) (n : ℕ) (w : World) where
   -- something can happen, and whichever of the four does leads on
@@ -43,32 +44,8 @@ module _ (ours theirs : Settings) (n : ℕ) (w : World) where
       by SlaveDone c = slave c
       by MasterDone c = master c
 
--- The points of the conversation, from a slave's and a master's modes before it.
+-- The points of the conversation, from a slave's and a master's modes before it: `between` while it lasts, and `masterUpAlone`.
 module _ (s t : Settings) (was theirs : Bool) where
-  -- while it lasts
-  abbrev talk : State → State → List LinkMessage → List LinkMessage → World
-  talk slave master toMaster toSlave =
-      record {
-        slave = inState Slave slave was;
-        master = inState Master master theirs;
-        toMaster = toMaster;
-        toSlave = toSlave;
-        slaveUp = false;
-        masterUp = false;
-      }
-
-  -- the master is up, its WR_MODE_ON on its way; then the slave is, too
-  abbrev master-up : World
-  master-up =
-      record {
-        slave = inState Slave Calibrated was;
-        master = inState Master Idle true;
-        toMaster = [];
-        toSlave = message.ModeOn ∷ [];
-        slaveUp = false;
-        masterUp = true;
-      }
-
   abbrev both-up : World
   both-up =
       record {
@@ -84,32 +61,32 @@ module _ (s t : Settings) (was theirs : Bool) where
   unfolding Comes
   up = refl
 
-  to-slave-on : Comes s t 1 master-up
+  to-slave-on : Comes s t 1 (masterUpAlone was (message.ModeOn ∷ []))
   unfolding stepped
-  to-slave-on = onward s t 0 master-up refl (blocked _ refl) (λ c. up) (blocked _ refl) (blocked _ refl)
+  to-slave-on = onward s t 0 (masterUpAlone was (message.ModeOn ∷ [])) refl (blocked _ refl) (λ c. up) (blocked _ refl) (blocked _ refl)
 
-  to-master-on : Comes s t 2 (talk Calibrated RespCalibReq (calibratedOf s ∷ []) [])
+  to-master-on : Comes s t 2 (between was theirs Calibrated RespCalibReq (calibratedOf s ∷ []) [])
   unfolding stepped
-  to-master-on = onward s t 1 (talk Calibrated RespCalibReq (calibratedOf s ∷ []) []) refl (λ c. to-slave-on) (blocked _ refl) (blocked _ refl) (blocked _ refl)
+  to-master-on = onward s t 1 (between was theirs Calibrated RespCalibReq (calibratedOf s ∷ []) []) refl (λ c. to-slave-on) (blocked _ refl) (blocked _ refl) (blocked _ refl)
 
   -- the slave has sent CALIBRATE and CALIBRATED
-  both-sent : Comes s t 3 (talk Calibrated Calibrated (calibrateOf s ∷ calibratedOf s ∷ []) [])
+  both-sent : Comes s t 3 (between was theirs Calibrated Calibrated (calibrateOf s ∷ calibratedOf s ∷ []) [])
   unfolding stepped
   both-sent =
-      onward s t 2 (talk Calibrated Calibrated (calibrateOf s ∷ calibratedOf s ∷ []) [])
+      onward s t 2 (between was theirs Calibrated Calibrated (calibrateOf s ∷ calibratedOf s ∷ []) [])
       refl (λ c. to-master-on) (blocked _ refl) (blocked _ refl) (blocked _ refl)
 
   -- the master has heard CALIBRATE, and the slave's hardware is not done
-  slave-calibrates : Comes s t 3 (talk Calibration RespCalibReq [] [])
+  slave-calibrates : Comes s t 3 (between was theirs Calibration RespCalibReq [] [])
   unfolding stepped
   slave-calibrates =
-      onward s t 2 (talk Calibration RespCalibReq [] [])
+      onward s t 2 (between was theirs Calibration RespCalibReq [] [])
       refl (blocked _ refl) (blocked _ refl) (λ c. to-master-on) (blocked _ refl)
 
-  calibrate-sent : Comes s t 4 (talk Calibration Calibrated (calibrateOf s ∷ []) [])
+  calibrate-sent : Comes s t 4 (between was theirs Calibration Calibrated (calibrateOf s ∷ []) [])
   unfolding stepped
   calibrate-sent =
-      onward s t 3 (talk Calibration Calibrated (calibrateOf s ∷ []) [])
+      onward s t 3 (between was theirs Calibration Calibrated (calibrateOf s ∷ []) [])
       refl (λ c. slave-calibrates) (blocked _ refl) (λ c. both-sent) (blocked _ refl)
 
 -- The slave hears the master's CALIBRATED; with calibration it takes one happening more, its hardware's.
@@ -117,33 +94,33 @@ abbrev second-half : Bool → ℕ
 second-half needed = pick needed 5 4
 
 master-calibrated : (needed : Bool) (s t : Settings) (was theirs : Bool) →
-    Comes (with needed s) t (second-half needed) (talk s t was theirs RespCalibReq Calibrated [] (calibratedOf t ∷ []))
+    Comes (with needed s) t (second-half needed) (between was theirs RespCalibReq Calibrated [] (calibratedOf t ∷ []))
 unfolding stepped
 master-calibrated true s t was theirs =
-    onward (with true s) t 4 (talk s t was theirs RespCalibReq Calibrated [] (calibratedOf t ∷ []))
+    onward (with true s) t 4 (between was theirs RespCalibReq Calibrated [] (calibratedOf t ∷ []))
     refl (blocked _ refl) (λ c. calibrate-sent (with true s) t was theirs) (blocked _ refl) (blocked _ refl)
 master-calibrated false s t was theirs =
-    onward (with false s) t 3 (talk s t was theirs RespCalibReq Calibrated [] (calibratedOf t ∷ []))
+    onward (with false s) t 3 (between was theirs RespCalibReq Calibrated [] (calibratedOf t ∷ []))
     refl (blocked _ refl) (λ c. both-sent (with false s) t was theirs) (blocked _ refl) (blocked _ refl)
 
 -- The first half, n being what the second takes.
-module _ (s t : Settings) (was theirs : Bool) (n : ℕ) (second : Comes s t n (talk s t was theirs RespCalibReq Calibrated [] (calibratedOf t ∷ []))) where
-  master-sent-both : Comes s t (suc n) (talk s t was theirs Locked Calibrated [] (calibrateOf t ∷ calibratedOf t ∷ []))
+module _ (s t : Settings) (was theirs : Bool) (n : ℕ) (second : Comes s t n (between was theirs RespCalibReq Calibrated [] (calibratedOf t ∷ []))) where
+  master-sent-both : Comes s t (suc n) (between was theirs Locked Calibrated [] (calibrateOf t ∷ calibratedOf t ∷ []))
   unfolding stepped
   master-sent-both =
-      onward s t n (talk s t was theirs Locked Calibrated [] (calibrateOf t ∷ calibratedOf t ∷ []))
+      onward s t n (between was theirs Locked Calibrated [] (calibrateOf t ∷ calibratedOf t ∷ []))
       refl (blocked _ refl) (λ c. second) (blocked _ refl) (blocked _ refl)
 
-  master-calibrates : Comes s t (suc n) (talk s t was theirs RespCalibReq Calibration [] [])
+  master-calibrates : Comes s t (suc n) (between was theirs RespCalibReq Calibration [] [])
   unfolding stepped
   master-calibrates =
-      onward s t n (talk s t was theirs RespCalibReq Calibration [] [])
+      onward s t n (between was theirs RespCalibReq Calibration [] [])
       refl (blocked _ refl) (blocked _ refl) (blocked _ refl) (λ c. second)
 
-  master-sent-calibrate : Comes s t (suc (suc n)) (talk s t was theirs Locked Calibration [] (calibrateOf t ∷ []))
+  master-sent-calibrate : Comes s t (suc (suc n)) (between was theirs Locked Calibration [] (calibrateOf t ∷ []))
   unfolding stepped
   master-sent-calibrate =
-      onward s t (suc n) (talk s t was theirs Locked Calibration [] (calibrateOf t ∷ []))
+      onward s t (suc n) (between was theirs Locked Calibration [] (calibrateOf t ∷ []))
       refl (blocked _ refl) (λ c. master-calibrates) (blocked _ refl) (λ c. master-sent-both)
 
 -- from LOCKED to there; with calibration it takes one happening more, the master's hardware's
@@ -151,14 +128,14 @@ abbrev first-half : Bool → ℕ → ℕ
 first-half needed n = pick needed (suc (suc (suc n))) (suc (suc n))
 
 slave-locked : (needed : Bool) (s t : Settings) (was theirs : Bool) (n : ℕ) →
-    Comes s (with needed t) n (talk s t was theirs RespCalibReq Calibrated [] (calibratedOf t ∷ [])) →
-    Comes s (with needed t) (first-half needed n) (talk s t was theirs Locked MLock (message.Locked ∷ []) [])
+    Comes s (with needed t) n (between was theirs RespCalibReq Calibrated [] (calibratedOf t ∷ [])) →
+    Comes s (with needed t) (first-half needed n) (between was theirs Locked MLock (message.Locked ∷ []) [])
 unfolding stepped
 slave-locked true s t was theirs n second =
-    onward s (with true t) (suc (suc n)) (talk s t was theirs Locked MLock (message.Locked ∷ []) [])
+    onward s (with true t) (suc (suc n)) (between was theirs Locked MLock (message.Locked ∷ []) [])
     refl (λ c. master-sent-calibrate s (with true t) was theirs n second) (blocked _ refl) (blocked _ refl) (blocked _ refl)
 slave-locked false s t was theirs n second =
-    onward s (with false t) (suc n) (talk s t was theirs Locked MLock (message.Locked ∷ []) [])
+    onward s (with false t) (suc n) (between was theirs Locked MLock (message.Locked ∷ []) [])
     refl (λ c. master-sent-both s (with false t) was theirs n second) (blocked _ refl) (blocked _ refl) (blocked _ refl)
 
 -- SLAVE_PRESENT is on its way to a master in IDLE
@@ -178,21 +155,21 @@ no-hardware Slave state i = rw (← idle-is state i)
 no-hardware Master state i = rw (← idle-is state i)
 
 -- The beginning, n being what is left from LOCKED.
-module _ (s t : Settings) (was : Bool) (master : Link) (n : ℕ) (rest : Comes s t n (talk s t was (master .mode) Locked MLock (message.Locked ∷ []) [])) where
-  slave-locks : Comes s t (suc n) (talk s t was (master .mode) SLock MLock [] [])
+module _ (s t : Settings) (was : Bool) (master : Link) (n : ℕ) (rest : Comes s t n (between was (master .mode) Locked MLock (message.Locked ∷ []) [])) where
+  slave-locks : Comes s t (suc n) (between was (master .mode) SLock MLock [] [])
   unfolding stepped
   slave-locks =
-      onward s t n (talk s t was (master .mode) SLock MLock [] [])
+      onward s t n (between was (master .mode) SLock MLock [] [])
       refl (blocked _ refl) (blocked _ refl) (λ c. rest) (blocked _ refl)
 
-  lock-sent : Comes s t (suc (suc n)) (talk s t was (master .mode) Present MLock [] (message.Lock ∷ []))
+  lock-sent : Comes s t (suc (suc n)) (between was (master .mode) Present MLock [] (message.Lock ∷ []))
   unfolding stepped
   lock-sent =
-      onward s t (suc n) (talk s t was (master .mode) Present MLock [] (message.Lock ∷ []))
+      onward s t (suc n) (between was (master .mode) Present MLock [] (message.Lock ∷ []))
       refl (blocked _ refl) (λ c. slave-locks) (blocked _ refl) (blocked _ refl)
 
   master-starts : isIdle (master .state) ≡ true → CanMaster (t .config) ≡ true →
-      act s t ToMaster (present-sent was master) ≡ talk s t was (master .mode) Present MLock [] (message.Lock ∷ [])
+      act s t ToMaster (present-sent was master) ≡ between was (master .mode) Present MLock [] (message.Lock ∷ [])
   unfolding stepped onSlavePresent
   master-starts i m = rw (i, m)
 

@@ -3,3 +3,5 @@ pub mod RunLaws
 pub mod Conversation
 pub mod Determined
 pub mod Witnesses
+pub mod Heeded
+pub mod Loss

@@ -1,11 +1,12 @@
 -- What holds of every step. Each law goes by the move that the rules make of the event, and by what the rules ask of that move.
 use Prim.Native.Nat.{ℕ, _+_, _≤_, _<_}
 use mathlib.Core.Path.{_≡_, refl, ap, sym, subst, _∙_}
-use mathlib.Core.Bool.{Bool, true, false, not, _&&_}
+use mathlib.Core.Bool.{Bool, true, false, not, _&&_, and-false}
 use mathlib.Core.Logic.{_⊎_, inl, inr}
 use lib.Dec.{eqb, ltb}
 use native.Mathlib.Omega.{arith}
 use borrow.Author.Tests.{eq-eqb, eqb-true, ltb-true, lt-ltb}
+use Rattle.laws.proofs.Bools.{both, clash}
 use Rattle.refusal.specs.Choice.{pick}
 use Rattle.link.specs.declared.Role.{Role}
 use Rattle.link.specs.declared.Role.the-variants.{Slave, Master}
@@ -27,7 +28,7 @@ use Rattle.link.specs.Run.{isTimeout, sent, isMessage, GoesOn}
 -- States.
 
 -- where a link that enters a state is after the step
-abbrev landed : Bool → State → State
+abbrev pub landed : Bool → State → State
 landed needed state = pick (isCalibration state && not needed) Calibrated state
 
 pub same-refl : (state : State) → sameState state state ≡ true
@@ -67,10 +68,10 @@ abbrev pub counted : Link → Event → Bool
 counted l e = isTimeout e && not (isIdle (l .state))
 
 -- the state entered is another one, whether calibration is needed or not
-abbrev Onward : State → State → Type 0
+abbrev pub Onward : State → State → Type 0
 Onward old state = (sameState (landed true state) old ≡ false) × (sameState (landed false state) old ≡ false)
 
-data Rule (l : Link) (e : Event) : Move → Type 0 where
+pub data Rule (l : Link) (e : Event) : Move → Type 0 where
   ignores : counted l e ≡ false → Rule l e Ignore
   enters : {role : Role} {state : State} → Onward (l .state) state → Rule l e (Enter role state)
   goes-on : isIdle (l .state) ≡ false → Rule l e LinkOn
@@ -134,25 +135,21 @@ module _ (l : Link) where
   of-timeout false true i f = resends (rw i) (ltb-true _ _ f)
   of-timeout false false i f = leaves
 
-first-of : (a b : Bool) → (a && b) ≡ true → a ≡ true
-first-of true b e = refl
-first-of false b e = e
-
 of-message : (config : ℕ) (l : Link) (n : ℕ) (idle : Bool) → isIdle (l .state) ≡ idle → Rule l (Message n) (pick idle (onSlavePresent config n) (onMessage (waitsOf (l .role) (l .state)) n))
 unfolding onSlavePresent
 of-message config l n true i = of-start l Master MLock refl (refl, refl) (CanMaster config && eqb n SLAVE-PRESENT) (λ b. i)
 of-message config l n false i = on-message l (waitsOf (l .role) (l .state)) n (along (l .role) (l .state))
 
 -- the rules hold of every event
-rule : (config : ℕ) (l : Link) (e : Event) → Rule l e (asked config l e)
+pub rule : (config : ℕ) (l : Link) (e : Event) → Rule l e (asked config l e)
 unfolding onStart onTimeout
 rule config l (Start parent mode) =
     of-start l Slave Present refl (refl, refl)
     (isIdle (l .state) && CanSlave config && CanMaster parent && not (l .mode && mode))
     (λ b.
-    first-of (isIdle (l .state)) (CanSlave config)
-    (first-of (isIdle (l .state) && CanSlave config) (CanMaster parent)
-    (first-of (isIdle (l .state) && CanSlave config && CanMaster parent) (not (l .mode && mode)) b)))
+    both (isIdle (l .state)) (CanSlave config)
+    (both (isIdle (l .state) && CanSlave config) (CanMaster parent)
+    (both (isIdle (l .state) && CanSlave config && CanMaster parent) (not (l .mode && mode)) b .0) .0) .0)
 rule config l (Message n) = of-message config l n (isIdle (l .state)) refl
 rule config l Done = on-done l (waitsOf (l .role) (l .state)) (along (l .role) (l .state))
 rule config l Timeout = of-timeout l (isIdle (l .state)) (ltb (l .retries) 3) refl refl
@@ -160,24 +157,17 @@ rule config l Stop = leaves
 
 -- The laws.
 
-landed-other : (needed : Bool) (old state : State) → Onward old state → sameState (landed needed state) old ≡ false
+pub landed-other : (needed : Bool) (old state : State) → Onward old state → sameState (landed needed state) old ≡ false
 landed-other true old state h = h .0
 landed-other false old state h = h .1
-
-and-false : (a : Bool) → (a && false) ≡ false
-and-false true = refl
-and-false false = refl
-
-clash : (b : Bool) → b ≡ true → b ≡ false → ⊥
-clash b p q = let z : _≡_ {A = ℕ} 0 1 = cc in omega arith
 
 module _ (s : Settings) (l : Link) (e : Event) where
   -- "A change of state zeroes the retry count."
   zeroes : {m : Move} → Rule l e m → sameState (taken s l m .link .state) (l .state) ≡ false → taken s l m .link .retries ≡ 0
-  zeroes (ignores c) other = absurd (clash _ (same-refl (l .state)) other)
+  zeroes (ignores c) other = clash (same-refl (l .state)) other
   zeroes (enters h) other = refl
   zeroes (goes-on i) other = refl
-  zeroes (resends c r) other = absurd (clash _ (same-refl (l .state)) other)
+  zeroes (resends c r) other = clash (same-refl (l .state)) other
   zeroes leaves other = refl
 
   pub change-zeroes : sameState (stepped s l e .link .state) (l .state) ≡ false → stepped s l e .link .retries ≡ 0
@@ -227,8 +217,8 @@ module _ (s : Settings) (l : Link) (e : Event) where
 
   sends-few : {m : Move} → Rule l e m → sameState (taken s l m .link .state) (l .state) ≡ true → sent (taken s l m .sends) ≤ pick (counted l e) 1 0
   sends-few (ignores c) same = rw c (omega arith)
-  sends-few (enters {role} {state} h) same = absurd (clash _ same (landed-other (s .calibrate) (l .state) state h))
-  sends-few (goes-on i) same = absurd (clash _ same (idle-same (l .state) ∙ i))
+  sends-few (enters {role} {state} h) same = clash same (landed-other (s .calibrate) (l .state) state h)
+  sends-few (goes-on i) same = clash same (idle-same (l .state) ∙ i)
   sends-few (resends c r) same = rw c (one-each (l .state))
   sends-few leaves same = omega arith
 
@@ -242,7 +232,7 @@ module _ (s : Settings) (l : Link) (e : Event) where
   on-before (enters h) on = inl on
   on-before (goes-on i) on = inr refl
   on-before (resends c r) on = inl on
-  on-before leaves on = absurd (clash true refl (sym on))
+  on-before leaves on = clash refl (sym on)
 
   -- mode on only by link on
   pub mode-by-link-on : stepped s l e .link .mode ≡ true → (l .mode ≡ true) ⊎ (stepped s l e .report ≡ true)
@@ -251,11 +241,11 @@ module _ (s : Settings) (l : Link) (e : Event) where
 
   -- a report comes with IDLE, the mode on and the count at zero
   reported : {m : Move} → Rule l e m → taken s l m .report ≡ true → taken s l m .link ≡ inState (l .role) Idle true
-  reported (ignores c) r = absurd (clash true refl (sym r))
-  reported (enters h) r = absurd (clash true refl (sym r))
+  reported (ignores c) r = clash refl (sym r)
+  reported (enters h) r = clash refl (sym r)
   reported (goes-on i) r = refl
-  reported (resends c h) r = absurd (clash true refl (sym r))
-  reported leaves r = absurd (clash true refl (sym r))
+  reported (resends c h) r = clash refl (sym r)
+  reported leaves r = clash refl (sym r)
 
   pub report-is-on : stepped s l e .report ≡ true → stepped s l e .link ≡ inState (l .role) Idle true
   unfolding stepped
@@ -285,42 +275,6 @@ module _ (s : Settings) (l : Link) (e : Event) where
   pub idle-ignores : isIdle (l .state) ≡ true → stepped s l Timeout ≡ ignored l
   unfolding stepped onTimeout
   idle-ignores i = rw i
-
--- What is ignored: a start outside IDLE, or of a parent that is no master; a message or hardware done that is not waited for.
-
-module _ (s : Settings) (l : Link) where
-  pub start-elsewhere : (parent : ℕ) (mode : Bool) → isIdle (l .state) ≡ false → stepped s l (Start parent mode) ≡ ignored l
-  unfolding stepped onStart
-  start-elsewhere parent mode i = rw i
-
-  pub no-master : (parent : ℕ) (mode : Bool) → CanMaster parent ≡ false → stepped s l (Start parent mode) ≡ ignored l
-  unfolding stepped onStart
-  no-master parent mode c = rw (c, and-false (isIdle (l .state) && CanSlave (s .config)))
-
-  pub both-modes-on : (parent : ℕ) → l .mode ≡ true → stepped s l (Start parent true) ≡ ignored l
-  unfolding stepped onStart
-  both-modes-on parent m = rw (m, and-false (isIdle (l .state) && CanSlave (s .config) && CanMaster parent))
-
-  pub idle-message : (n : ℕ) → isIdle (l .state) ≡ true → eqb n SLAVE-PRESENT ≡ false → stepped s l (Message n) ≡ ignored l
-  unfolding stepped onSlavePresent
-  idle-message n i d = rw (i, d, and-false (CanMaster (s .config)))
-
-  pub other-message : (n awaited : ℕ) (then : Move) → isIdle (l .state) ≡ false → waitsOf (l .role) (l .state) ≡ waits.Message awaited then → eqb n awaited ≡ false →
-      stepped s l (Message n) ≡ ignored l
-  unfolding stepped
-  other-message n awaited then i w d = rw (i, w, d)
-
-  pub message-while-hardware : (n : ℕ) (then : Move) → isIdle (l .state) ≡ false → waitsOf (l .role) (l .state) ≡ waits.Hardware then → stepped s l (Message n) ≡ ignored l
-  unfolding stepped
-  message-while-hardware n then i w = rw (i, w)
-
-  pub done-while-message : (awaited : ℕ) (then : Move) → waitsOf (l .role) (l .state) ≡ waits.Message awaited then → stepped s l Done ≡ ignored l
-  unfolding stepped
-  done-while-message awaited then w = rw w
-
-  pub nothing-awaited : (n : ℕ) → isIdle (l .state) ≡ false → waitsOf (l .role) (l .state) ≡ waits.Nothing → (stepped s l (Message n) ≡ ignored l) × (stepped s l Done ≡ ignored l)
-  unfolding stepped
-  nothing-awaited n i w = (rw (i, w), rw w)
 
 -- A link on its way goes on: what its state waits for changes the state.
 

@@ -6,6 +6,7 @@ use mathlib.Core.Bool.{Bool, true, false, not, _&&_, _||_}
 use mathlib.Core.List.{List, [], _∷_, _++_}
 use Rattle.refusal.specs.Choice.{pick}
 use Rattle.tlv.specs.declared.wr.LinkMessage.{LinkMessage}
+use Rattle.tlv.specs.Numbers.{linkNumber}
 use Rattle.link.specs.declared.Link.{Link}
 use Rattle.link.specs.declared.Settings.{Settings}
 use Rattle.link.specs.declared.Event.{Event}
@@ -14,7 +15,7 @@ use Rattle.link.specs.declared.Sends.{Sends}
 use Rattle.link.specs.declared.Sends.the-variants.{Nothing, One, Two}
 use Rattle.link.specs.declared.Waits.{Waits}
 use Rattle.link.specs.declared.Waits.the-variants as waits
-use Rattle.link.specs.Machine.{LOCK, LOCKED, CALIBRATE, CALIBRATED, WR-MODE-ON, numberOf, isIdle, waitsOf, stepped}
+use Rattle.link.specs.Machine.{LOCK, LOCKED, CALIBRATE, CALIBRATED, WR-MODE-ON, isIdle, waitsOf, stepped}
 
 -- the two links, the messages on their way to each, and who has reported link on
 pub record World : Type 0 where
@@ -97,11 +98,11 @@ module _ (ours theirs : Settings) where
   -- the first message on its way is delivered, by its number
   abbrev pub masterHears : List LinkMessage → World → World
   masterHears [] w = w
-  masterHears (m ∷ ms) w = atMaster (Message (numberOf m)) (sentToMaster ms w)
+  masterHears (m ∷ ms) w = atMaster (Message (linkNumber m)) (sentToMaster ms w)
 
   abbrev pub slaveHears : List LinkMessage → World → World
   slaveHears [] w = w
-  slaveHears (m ∷ ms) w = atSlave (Message (numberOf m)) (sentToSlave ms w)
+  slaveHears (m ∷ ms) w = atSlave (Message (linkNumber m)) (sentToSlave ms w)
 
   abbrev pub act : Act → World → World
   act ToMaster w = masterHears (w .toMaster) w

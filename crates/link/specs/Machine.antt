@@ -5,6 +5,7 @@ use lib.Dec.{eqb, ltb}
 use Rattle.refusal.specs.Choice.{pick}
 use Rattle.tlv.specs.declared.wr.LinkMessage.{LinkMessage}
 use Rattle.tlv.specs.declared.wr.LinkMessage.the-variants as message
+pub use Rattle.tlv.specs.Numbers.{SLAVE-PRESENT, LOCK, LOCKED, CALIBRATE, CALIBRATED, WR-MODE-ON}
 use Rattle.link.specs.declared.Role.{Role}
 use Rattle.link.specs.declared.Role.the-variants.{Slave, Master}
 use Rattle.link.specs.declared.State.{State}
@@ -20,33 +21,6 @@ use Rattle.link.specs.declared.Move.{Move}
 use Rattle.link.specs.declared.Move.the-variants.{Ignore, Enter, LinkOn, Resend, Leave}
 use Rattle.link.specs.declared.Waits.{Waits}
 use Rattle.link.specs.declared.Waits.the-variants as waits
-
--- "Message numbers (003, Table 4)"
-abbrev pub numberOf : LinkMessage → ℕ
-numberOf message.SlavePresent = 0x1000
-numberOf message.Lock = 0x1001
-numberOf message.Locked = 0x1002
-numberOf (message.Calibrate pattern retry period) = 0x1003
-numberOf (message.Calibrated tx rx) = 0x1004
-numberOf message.ModeOn = 0x1005
-
-abbrev pub SLAVE-PRESENT : ℕ
-SLAVE-PRESENT = 0x1000
-
-abbrev pub LOCK : ℕ
-LOCK = 0x1001
-
-abbrev pub LOCKED : ℕ
-LOCKED = 0x1002
-
-abbrev pub CALIBRATE : ℕ
-CALIBRATE = 0x1003
-
-abbrev pub CALIBRATED : ℕ
-CALIBRATED = 0x1004
-
-abbrev pub WR-MODE-ON : ℕ
-WR-MODE-ON = 0x1005
 
 abbrev pub isIdle : State → Bool
 isIdle Idle = true

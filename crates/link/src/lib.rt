@@ -248,7 +248,7 @@ fn on_timeout(state: State, retries: u8) -> Move
 }
 
 // The move that an event asks of a link.
-fn asked(config: u8, l: Link, e: Event) -> Move
+pub fn asked(config: u8, l: Link, e: Event) -> Move
     ensures { λ r. ⌜ r ≡ asked config l e ⌝ }
 {
     let role = l.role;

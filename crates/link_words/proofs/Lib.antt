@@ -1,3 +1,4 @@
 pub mod Laws
+pub mod EventLaws
 pub mod Determined
 pub mod Witnesses

@@ -1,6 +1,9 @@
 // What a step of a link answers, in words.
 ghost use mathlib.Core.Path.{_≡_};
 ghost use Rattle.link_words.specs.Steps.{sendsWords, stepWords, takenCode, takenWords};
+
+pub mod events;
+
 use link::Sends;
 use link::Stepped;
 use links::Taken;

@@ -1,13 +1,14 @@
 -- Links and settings in words: what is packed comes back, a call changes its own port's words alone, and zeroed words are fresh links.
 use Prim.Native.Nat.{ℕ, _+_, _*_, _/_, _%_, _≤_, _<_}
 use mathlib.Core.Path.{_≡_, refl, ap, _∙_}
-use mathlib.Core.Bool.{Bool, true, false, not, _&&_}
+use mathlib.Core.Bool.{Bool, true, false, not}
 use mathlib.Core.Logic.{_≢_}
 use mathlib.Core.List.{List}
 use native.Mathlib.Omega.{arith}
 use native.Mathlib.Nat.{div-add-mod'}
 use lib.ListN.{length, getD, set, length-set}
 use lib.Seq.{getD-set-same, getD-set-other}
+pub use Rattle.refusal.proofs.Limits.{port-bounds as port-range}
 use Rattle.refusal.specs.Choice.{refuse}
 use lib.Dec.{eqb, leb, ltb}
 use borrow.Author.Tests.{leb-true, le-ltb, ltb-true, ltb-false}
@@ -41,19 +42,6 @@ pub bit-below : (b : Bool) → bit b < 2
 bit-below true = omega arith
 bit-below false = omega arith
 
-second-of : (a b : Bool) → (a && b) ≡ true → b ≡ true
-second-of true b e = e
-second-of false b e = let z : _≡_ {A = ℕ} 0 1 = cc in absurd (omega arith)
-
-first-of : (a b : Bool) → (a && b) ≡ true → a ≡ true
-first-of true b e = refl
-first-of false b e = e
-
--- "port outside 1 to 18"
-pub port-range : (port : ℕ) → IsPort port ≡ true → (1 ≤ port) × (port ≤ 18)
-port-range port e =
-    (leb-true 1 port (first-of (leb 1 port) (leb port 18) e), leb-true port 18 (second-of (leb 1 port) (leb port 18) e))
-
 -- What is packed comes back.
 
 bit-back : (b : Bool) → eqb (bit b) 1 ≡ b
@@ -64,25 +52,47 @@ role-back : (role : Role) → roleOf (roleNumber role) ≡ role
 role-back Slave = refl
 role-back Master = refl
 
+-- the parts of a link's word
+module _ (l : Link) where
+  in-word : wordOf l ≡ stateNumber (l .state) + 8 * (roleNumber (l .role) + 2 * (bit (l .mode) + 2 * (l .retries)))
+  unfolding wordOf
+  in-word = omega arith
+
+  pub state-in : wordOf l % 8 ≡ stateNumber (l .state)
+  state-in = let s = state-below (l .state) in omega (arith, in-word)
+
+  pub role-in : wordOf l / 8 % 2 ≡ roleNumber (l .role)
+  role-in =
+      let s = state-below (l .state) in
+      let r = role-below (l .role) in
+      let q : wordOf l / 8 ≡ roleNumber (l .role) + 2 * (bit (l .mode) + 2 * (l .retries)) = omega (arith, in-word) in
+      rw q (omega arith)
+
+  pub mode-in : wordOf l / 16 % 2 ≡ bit (l .mode)
+  mode-in =
+      let s = state-below (l .state) in
+      let r = role-below (l .role) in
+      let m = bit-below (l .mode) in
+      let q : wordOf l / 16 ≡ bit (l .mode) + 2 * (l .retries) = omega (arith, in-word) in
+      rw q (omega arith)
+
+  pub count-in : wordOf l / 32 ≡ l .retries
+  count-in =
+      let s = state-below (l .state) in
+      let r = role-below (l .role) in
+      let m = bit-below (l .mode) in
+      omega (arith, in-word)
+
 pub link-back : (l : Link) → l .retries < 256 → linkOf (wordOf l) ≡ l
-unfolding linkOf wordOf
+unfolding linkOf
 link-back l h =
-    let s = state-below (l .state) in
-    let r = role-below (l .role) in
-    let m = bit-below (l .mode) in
-    let q8 : wordOf l / 8 ≡ roleNumber (l .role) + 2 * bit (l .mode) + 4 * (l .retries) = omega arith in
-    let es : wordOf l % 8 ≡ stateNumber (l .state) = omega (arith, div-add-mod' (wordOf l) 8) in
-    let q16 : wordOf l / 16 ≡ bit (l .mode) + 2 * (l .retries) = omega arith in
-    let q32 : wordOf l / 32 ≡ l .retries = omega arith in
-    let er : wordOf l / 8 % 2 ≡ roleNumber (l .role) = rw q8 (omega arith) in
-    let em : wordOf l / 16 % 2 ≡ bit (l .mode) = rw q16 (omega arith) in
-    let en : wordOf l / 32 % 256 ≡ l .retries = rw q32 (omega arith) in
+    let en : wordOf l / 32 % 256 ≡ l .retries = rw (count-in l) (omega arith) in
     λ i.
     record {
-      role = (ap roleOf er ∙ role-back (l .role)) i;
-      state = (ap stateOf es ∙ number-back (l .state)) i;
+      role = (ap roleOf (role-in l) ∙ role-back (l .role)) i;
+      state = (ap stateOf (state-in l) ∙ number-back (l .state)) i;
       retries = en i;
-      mode = (ap (λ (n : ℕ). eqb n 1) em ∙ bit-back (l .mode)) i;
+      mode = (ap (λ (n : ℕ). eqb n 1) (mode-in l) ∙ bit-back (l .mode)) i;
     }
 
 pub settings-back : (s : Settings) → s .config < 4 → s .retry < 256 → s .period < 4294967296 → settingsOf (settingsWord s) (s .tx) (s .rx) ≡ s

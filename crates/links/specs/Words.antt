@@ -5,6 +5,7 @@ use mathlib.Core.Bool.{Bool, not, _&&_}
 use mathlib.Core.List.{List}
 use lib.ListN.{getD, set}
 use lib.Dec.{eqb, leb, ltb}
+use Rattle.refusal.specs.Limits.{isPort}
 use Rattle.refusal.specs.Choice.{pick, refuse}
 use Rattle.refusal.specs.declared.Outcome.{Outcome}
 use Rattle.refusal.specs.declared.Outcome.the-variants as outcome
@@ -55,7 +56,7 @@ settingsOf w tx rx =
 
 -- "port outside 1 to 18"
 abbrev pub IsPort : ℕ → Bool
-IsPort port = leb 1 port && leb port 18
+IsPort = isPort
 
 -- where a port's four words begin
 abbrev pub base : ℕ → ℕ

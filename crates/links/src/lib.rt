@@ -7,6 +7,10 @@ ghost use mathlib.Core.Path.{_≡_};
 ghost use Prim.Native.Nat.{_≤_};
 ghost use Rattle.link.specs.States.{stateNumber, stateOf};
 ghost use Rattle.links.specs.Words.{bit, roleNumber, roleOf, wordOf, linkOf, settingsWord, settingsOf, IsPort, base, settingAnswer, settingWords, takeAnswer, takeWords, lookAnswer};
+ghost use Rattle.refusal.specs.Limits.{portCount};
+
+pub mod brief;
+
 use link::Event;
 use link::Link;
 use link::Role;
@@ -126,15 +130,15 @@ fn settings_of(w: u64, tx: u64, rx: u64) -> Settings
 }
 
 // A port is 1 to 18.
-fn is_port(port: u8) -> bool
+pub fn is_port(port: u8) -> bool
     ensures { λ r. ⌜ r ≡ IsPort port ⌝ }
 {
-    (1 <= port) & (port <= 18)
+    (1 <= port) & (port <= refusal::PORTS as u8)
 }
 
 // Where a port's four words begin.
-fn place(port: u8) -> usize
-    requires { ⌜ (1 ≤ port) × (port ≤ 18) ⌝ }
+pub fn place(port: u8) -> usize
+    requires { ⌜ (1 ≤ port) × (port ≤ portCount) ⌝ }
     ensures { λ r. ⌜ (r ≡ base port) × (r ≤ 68) ⌝ }
 {
     4 * (port as usize - 1)

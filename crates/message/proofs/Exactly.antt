@@ -1,24 +1,69 @@
--- Each answer of the reading checks is given exactly when the table says.
-use Prim.Native.Nat.{ℕ, _≤_, _<_}
-use mathlib.Core.Path.{_≡_, refl, sym, subst, _∙_}
+-- Each number that reading gives is given exactly when the table says: by the checks, by every call that reads, and with
+-- the 3 of those calls that take messages of one type.
+use Prim.Native.Nat.{ℕ, _+_, _<_}
+use mathlib.Core.Path.{_≡_, refl, sym, ap, subst, _∙_}
 use mathlib.Core.List.{List}
 use mathlib.Core.Bool.{Bool, true, false, not}
 use mathlib.Core.Logic.{_⊎_, inl, inr, ⊎-elim}
+use native.Mathlib.Omega.{arith}
 use borrow.Author.Tests.{lt-ltb, le-ltb, eq-eqb, ne-eqb, ltb-true, ltb-false, eqb-true, eqb-false}
 use lib.Dec.{eqb, ltb}
 use lib.ListN.{length}
-use Rattle.refusal.specs.Choice.{refuse}
+use Rattle.laws.proofs.Bools.{decided}
+use Rattle.refusal.specs.Choice.{pick, refuse}
+use Rattle.refusal.specs.Refusal.{numberOf, codeOf}
+use Rattle.refusal.specs.declared.Refusal.{Refusal}
 use Rattle.refusal.specs.declared.Refusal.the-variants.{Short, Version, «Type», Length, Stamp, Tlv, WrBad, Port, Domain, Own, Backward, Stale, Full, Range, Unranked, Room, Many, Field}
 use Rattle.refusal.specs.declared.Outcome.{Outcome}
 use Rattle.refusal.specs.declared.Outcome.the-variants.{Done, Refused}
+use Rattle.tlv.specs.Walk.{TlvAt, FirstTlv, NoTlv}
+use Rattle.tlv.specs.Form.{misfitAt}
 use Rattle.tlv.specs.Faults.{whole, misfit, tailCheck}
-use Rattle.message.specs.Fields.{typeOf, versionOf, lengthOf, fixedSize, tailOf}
-use Rattle.message.specs.Reading.{badStamp, checkOf}
-use Rattle.message.specs.When.{HasHeader, IsTwo, IsListed, IsSized, IsLent, IsStamped, IsWhole, When}
+use Rattle.tlv.specs.Wr.{suffixIn, linkIn}
+use Rattle.tlv.specs.declared.wr.Suffix.{Suffix}
+use Rattle.tlv.specs.declared.wr.Suffix.the-variants as suffix
+use Rattle.tlv.specs.declared.wr.LinkFound.{LinkFound}
+use Rattle.tlv.specs.declared.wr.LinkFound.the-variants as found
+use Rattle.tlv.proofs.Reached.{reached-whole, whole-reached, absent-none, none-absent, one-or-none}
+use Rattle.message.specs.Fields.{typeOf, versionOf, lengthOf, fixedSize, tailOf, messageOf}
+use Rattle.message.specs.Reading.{badStamp, checkOf, by, readOf}
+use Rattle.message.specs.Parts.{firstOfType, lookupOf, suffixAnswer, suffixOf, linkAnswer, linkOf, announcedOf}
+use Rattle.message.specs.When.{HasHeader, IsTwo, IsListed, IsSized, IsLent, IsStamped, IsWhole, When, few, version, unlisted, below, beyond, stamp, tlv, wrbad, sound, TakesWhen, unread, other, taken}
+use Rattle.message.specs.Answers.{readCode, tlvCode, suffixCode, linkCode, announcedCode}
+use Rattle.message.specs.declared.reading.Reading.the-variants as reading
+use Rattle.message.specs.declared.parts.TlvRead.the-variants as lookup
+use Rattle.message.specs.declared.parts.SuffixRead.the-variants as flags
+use Rattle.message.specs.declared.parts.LinkRead.the-variants as link
+use Rattle.message.specs.declared.announce.Announced.the-variants as announced
 
-both : (b : Bool) → (b ≡ true) ⊎ (b ≡ false)
-both true = inl refl
-both false = inr refl
+-- every refusal has a number above 0
+pub counted : (x : Refusal) → 0 < numberOf x
+counted Short = omega arith
+counted Version = omega arith
+counted «Type» = omega arith
+counted Length = omega arith
+counted Stamp = omega arith
+counted Tlv = omega arith
+counted WrBad = omega arith
+counted Port = omega arith
+counted Domain = omega arith
+counted Own = omega arith
+counted Backward = omega arith
+counted Stale = omega arith
+counted Full = omega arith
+counted Range = omega arith
+counted Unranked = omega arith
+counted Room = omega arith
+counted Many = omega arith
+counted Field = omega arith
+
+-- nothing is refused where the number is 0
+pub none-refused : (o : Outcome) → codeOf o ≡ 0 → o ≡ Done
+none-refused Done e = refl
+none-refused (Refused x) e = absurd (omega (arith, counted x, e))
+
+no-truth : _≡_ {A = Bool} false true → ⊥
+no-truth e = let z : _≡_ {A = ℕ} 0 1 = cc in omega arith
 
 module _ (magic : ℕ) (s : List ℕ) where
   -- the answer, from what the octets are like
@@ -72,100 +117,210 @@ module _ (magic : ℕ) (s : List ℕ) where
   unfolding tailCheck refuse
   not-whole p e = stamped p ∙ rw e
 
+  whole-is : (b : Bool) → whole (tailOf s) ≡ b → (whole (tailOf s) ≡ true → ⊥) → whole (tailOf s) ≡ false
+  whole-is true e n = absurd (n e)
+  whole-is false e n = e
+
   misfitting : IsWhole s → (misfit magic (tailOf s) 0 ≡ length (tailOf s) → ⊥) → checkOf magic s ≡ Refused WrBad
   unfolding tailCheck refuse
-  misfitting p n = stamped (p .0) ∙ rw (p .1, ne-eqb (misfit magic (tailOf s) 0) (length (tailOf s)) n)
+  misfitting p n =
+      stamped (p .0) ∙ rw (reached-whole (tailOf s) (p .1), ne-eqb (misfit magic (tailOf s) 0) (length (tailOf s)) n)
 
-  sound : IsWhole s → misfit magic (tailOf s) 0 ≡ length (tailOf s) → checkOf magic s ≡ Done
+  -- a TLV that does not fit is one that the search finds
+  misfit-found : {p : ℕ} → TlvAt (tailOf s) p → misfitAt magic (tailOf s) p ≡ true → misfit magic (tailOf s) 0 ≡ length (tailOf s) → ⊥
+  misfit-found {p} v f e = no-truth (sym (absent-none (misfitAt magic (tailOf s)) (tailOf s) e p v) ∙ f)
+
+  fitting : IsWhole s → misfit magic (tailOf s) 0 ≡ length (tailOf s) → checkOf magic s ≡ Done
   unfolding tailCheck refuse
-  sound p e = stamped (p .0) ∙ rw (p .1, eq-eqb (misfit magic (tailOf s) 0) (length (tailOf s)) e)
+  fitting p e =
+      stamped (p .0) ∙ rw (reached-whole (tailOf s) (p .1), eq-eqb (misfit magic (tailOf s) 0) (length (tailOf s)) e)
 
-  give : {x : Outcome} → checkOf magic s ≡ x → When magic s x → When magic s (checkOf magic s)
-  give e w = subst (When magic s) (sym e) w
+  give : {x : Outcome} → checkOf magic s ≡ x → When magic s (codeOf x) → When magic s (codeOf (checkOf magic s))
+  give e w = subst (λ (o : Outcome). When magic s (codeOf o)) (sym e) w
 
   -- from check to check
-  at-tail : IsWhole s → When magic s (checkOf magic s)
+  at-tail : IsWhole s → When magic s (codeOf (checkOf magic s))
   at-tail p =
       ⊎-elim
-      (λ (t : eqb (misfit magic (tailOf s) 0) (length (tailOf s)) ≡ true).
-      let e = eqb-true (misfit magic (tailOf s) 0) (length (tailOf s)) t in give (sound p e) (p, e))
-      (λ (t : eqb (misfit magic (tailOf s) 0) (length (tailOf s)) ≡ false).
-      let n = eqb-false (misfit magic (tailOf s) 0) (length (tailOf s)) t in give (misfitting p n) (p, n))
-      (both (eqb (misfit magic (tailOf s) 0) (length (tailOf s))))
+      (λ (f : FirstTlv (misfitAt magic (tailOf s)) (tailOf s) (misfit magic (tailOf s) 0)).
+      give (misfitting p (misfit-found (f .at) (f .passes))) (wrbad p (f .at) (f .passes)))
+      (λ (n : NoTlv (misfitAt magic (tailOf s)) (tailOf s)).
+      give (fitting p (none-absent (misfitAt magic (tailOf s)) (tailOf s) n)) (sound p n))
+      (one-or-none (misfitAt magic (tailOf s)) (tailOf s))
 
-  at-stamp : IsStamped s → When magic s (checkOf magic s)
+  at-stamp : IsStamped s → When magic s (codeOf (checkOf magic s))
   at-stamp p =
       ⊎-elim
-      (λ (t : whole (tailOf s) ≡ true). at-tail (p, t))
-      (λ (t : whole (tailOf s) ≡ false). give (not-whole p t) (p, t))
-      (both (whole (tailOf s)))
+      (λ (t : whole (tailOf s) ≡ true). at-tail (p, whole-reached (tailOf s) t))
+      (λ (t : whole (tailOf s) ≡ false).
+      give (not-whole p t) (tlv p (λ r. no-truth (sym t ∙ reached-whole (tailOf s) r))))
+      (decided (whole (tailOf s)))
 
-  at-lent : IsLent s → When magic s (checkOf magic s)
+  at-lent : IsLent s → When magic s (codeOf (checkOf magic s))
   at-lent p =
       ⊎-elim
-      (λ (t : badStamp (typeOf s) s ≡ true). give (bad-stamped p t) (p, t))
+      (λ (t : badStamp (typeOf s) s ≡ true). give (bad-stamped p t) (stamp p t))
       (λ (t : badStamp (typeOf s) s ≡ false). at-stamp (p, t))
-      (both (badStamp (typeOf s) s))
+      (decided (badStamp (typeOf s) s))
 
-  at-sized : IsSized s → When magic s (checkOf magic s)
+  at-sized : IsSized s → When magic s (codeOf (checkOf magic s))
   at-sized p =
       ⊎-elim
       (λ (t : ltb (length s) (lengthOf s) ≡ true).
-      let h = ltb-true (length s) (lengthOf s) t in give (not-lent p h) (inr (p, h)))
+      let h = ltb-true (length s) (lengthOf s) t in give (not-lent p h) (beyond p h))
       (λ (t : ltb (length s) (lengthOf s) ≡ false). at-lent (p, ltb-false (length s) (lengthOf s) t))
-      (both (ltb (length s) (lengthOf s)))
+      (decided (ltb (length s) (lengthOf s)))
 
-  at-listed : IsListed s → When magic s (checkOf magic s)
+  at-listed : IsListed s → When magic s (codeOf (checkOf magic s))
   at-listed p =
       ⊎-elim
       (λ (t : ltb (lengthOf s) (fixedSize (typeOf s)) ≡ true).
-      let h = ltb-true (lengthOf s) (fixedSize (typeOf s)) t in give (not-sized p h) (p, h))
+      let h = ltb-true (lengthOf s) (fixedSize (typeOf s)) t in give (not-sized p h) (below p h))
       (λ (t : ltb (lengthOf s) (fixedSize (typeOf s)) ≡ false).
       at-sized (p, ltb-false (lengthOf s) (fixedSize (typeOf s)) t))
-      (both (ltb (lengthOf s) (fixedSize (typeOf s))))
+      (decided (ltb (lengthOf s) (fixedSize (typeOf s))))
 
-  at-two : IsTwo s → When magic s (checkOf magic s)
+  at-two : IsTwo s → When magic s (codeOf (checkOf magic s))
   at-two p =
       ⊎-elim
       (λ (t : eqb (fixedSize (typeOf s)) 0 ≡ true).
-      let e = eqb-true (fixedSize (typeOf s)) 0 t in give (not-listed p e) (p, e))
+      let e = eqb-true (fixedSize (typeOf s)) 0 t in give (not-listed p e) (unlisted p e))
       (λ (t : eqb (fixedSize (typeOf s)) 0 ≡ false). at-listed (p, eqb-false (fixedSize (typeOf s)) 0 t))
-      (both (eqb (fixedSize (typeOf s)) 0))
+      (decided (eqb (fixedSize (typeOf s)) 0))
 
-  at-header : HasHeader s → When magic s (checkOf magic s)
+  at-header : HasHeader s → When magic s (codeOf (checkOf magic s))
   at-header p =
       ⊎-elim
       (λ (t : eqb (versionOf s) 2 ≡ true). at-two (p, eqb-true (versionOf s) 2 t))
       (λ (t : eqb (versionOf s) 2 ≡ false).
-      let n = eqb-false (versionOf s) 2 t in give (not-two p n) (p, n))
-      (both (eqb (versionOf s) 2))
+      let n = eqb-false (versionOf s) 2 t in give (not-two p n) (version p n))
+      (decided (eqb (versionOf s) 2))
 
-  -- THE ANSWER GIVEN: its line of the table holds
-  pub told : When magic s (checkOf magic s)
+  -- THE NUMBER GIVEN: its line of the table holds
+  pub told : When magic s (codeOf (checkOf magic s))
   told =
       ⊎-elim
-      (λ (t : ltb (length s) 34 ≡ true). let h = ltb-true (length s) 34 t in give (no-header h) (inl h))
+      (λ (t : ltb (length s) 34 ≡ true). let h = ltb-true (length s) 34 t in give (no-header h) (few h))
       (λ (t : ltb (length s) 34 ≡ false). at-header (ltb-false (length s) 34 t))
-      (both (ltb (length s) 34))
+      (decided (ltb (length s) 34))
 
-  -- A LINE OF THE TABLE THAT HOLDS: its answer is given
-  pub when-told : (x : Outcome) → When magic s x → checkOf magic s ≡ x
-  when-told Done w = sound (w .0) (w .1)
-  when-told (Refused Short) w = ⊎-elim no-header (λ (v : IsSized s × (length s < lengthOf s)). not-lent (v .0) (v .1)) w
-  when-told (Refused Version) w = not-two (w .0) (w .1)
-  when-told (Refused «Type») w = not-listed (w .0) (w .1)
-  when-told (Refused Length) w = not-sized (w .0) (w .1)
-  when-told (Refused Stamp) w = bad-stamped (w .0) (w .1)
-  when-told (Refused Tlv) w = not-whole (w .0) (w .1)
-  when-told (Refused WrBad) w = misfitting (w .0) (w .1)
-  when-told (Refused Port) w = absurd w
-  when-told (Refused Domain) w = absurd w
-  when-told (Refused Own) w = absurd w
-  when-told (Refused Backward) w = absurd w
-  when-told (Refused Stale) w = absurd w
-  when-told (Refused Full) w = absurd w
-  when-told (Refused Range) w = absurd w
-  when-told (Refused Unranked) w = absurd w
-  when-told (Refused Room) w = absurd w
-  when-told (Refused Many) w = absurd w
-  when-told (Refused Field) w = absurd w
+  -- A LINE OF THE TABLE THAT HOLDS: its number is given
+  pub when-told : {n : ℕ} → When magic s n → codeOf (checkOf magic s) ≡ n
+  when-told (few h) = ap codeOf (no-header h)
+  when-told (version p n) = ap codeOf (not-two p n)
+  when-told (unlisted p e) = ap codeOf (not-listed p e)
+  when-told (below p h) = ap codeOf (not-sized p h)
+  when-told (beyond p h) = ap codeOf (not-lent p h)
+  when-told (stamp p e) = ap codeOf (bad-stamped p e)
+  when-told (tlv p n) =
+      ap codeOf (not-whole p (whole-is (whole (tailOf s)) refl (λ e. n (whole-reached (tailOf s) e))))
+  when-told (wrbad p v f) = ap codeOf (misfitting p (misfit-found v f))
+  when-told (sound p n) = ap codeOf (fitting p (none-absent (misfitAt magic (tailOf s)) (tailOf s) n))
+
+-- ---- the calls that read: an answer by the checks has the checks' number
+module _ {A : Type 0} (code : A → ℕ) (refused : Refusal → A) (number : (x : Refusal) → code (refused x) ≡ numberOf x) where
+  by-code : (o : Outcome) (a : A) → code a ≡ 0 → code (by o refused a) ≡ codeOf o
+  by-code Done a z = z
+  by-code (Refused x) a z = number x
+
+  -- those that take messages of one type
+  module _ (magic kind : ℕ) (s : List ℕ) (a : A) (z : code a ≡ 0) where
+    abbrev answer : A
+    answer = by (checkOf magic s) refused (refuse (not (eqb (typeOf s) kind)) (refused «Type») a)
+
+    refused-as : {n : ℕ} (x : Refusal) → checkOf magic s ≡ Refused x → codeOf (checkOf magic s) ≡ n → code answer ≡ n
+    refused-as x e m = rw e (number x ∙ ap codeOf (sym e) ∙ m)
+
+    other-as : checkOf magic s ≡ Done → (typeOf s ≡ kind → ⊥) → code answer ≡ 3
+    unfolding refuse
+    other-as e n = rw (e, ne-eqb (typeOf s) kind n) (number «Type»)
+
+    taken-as : checkOf magic s ≡ Done → typeOf s ≡ kind → code answer ≡ 0
+    unfolding refuse
+    taken-as e k = rw (e, eq-eqb (typeOf s) kind k) z
+
+    refused-by : {n : ℕ} (o : Outcome) → checkOf magic s ≡ o → codeOf (checkOf magic s) ≡ n → 0 < n → code answer ≡ n
+    refused-by (Refused x) e m p = refused-as x e m
+    refused-by Done e m p = absurd (let z = ap codeOf e in omega (arith, z, m, p))
+
+    pub when-takes : {n : ℕ} → TakesWhen magic kind s n → code answer ≡ n
+    when-takes (unread w p) = refused-by (checkOf magic s) refl (when-told magic s w) p
+    when-takes (other w n) = other-as (none-refused (checkOf magic s) (when-told magic s w)) n
+    when-takes (taken w k) = taken-as (none-refused (checkOf magic s) (when-told magic s w)) k
+
+    -- which of the three it is
+    line : (o : Outcome) → checkOf magic s ≡ o → (b : Bool) → eqb (typeOf s) kind ≡ b → (n : ℕ) × TakesWhen magic kind s n
+    line (Refused x) e b t =
+        (numberOf x, unread (subst (λ (o : Outcome). When magic s (codeOf o)) e (told magic s)) (counted x))
+    line Done e true t =
+        (0, taken (subst (λ (o : Outcome). When magic s (codeOf o)) e (told magic s)) (eqb-true (typeOf s) kind t))
+    line Done e false t =
+        (3, other (subst (λ (o : Outcome). When magic s (codeOf o)) e (told magic s)) (eqb-false (typeOf s) kind t))
+
+    pub takes-told : TakesWhen magic kind s (code answer)
+    takes-told =
+        let l = line (checkOf magic s) refl (eqb (typeOf s) kind) refl in
+        subst (TakesWhen magic kind s) (sym (when-takes (l .1))) (l .1)
+
+module _ (magic : ℕ) (s : List ℕ) where
+  -- reading, and looking up a TLV
+  read-code : readCode (readOf magic s) ≡ codeOf (checkOf magic s)
+  unfolding readOf
+  read-code = by-code readCode reading.Refused (λ x. refl) (checkOf magic s) (reading.Whole (messageOf s)) refl
+
+  pub read-told : When magic s (readCode (readOf magic s))
+  read-told = subst (When magic s) (sym read-code) (told magic s)
+
+  pub when-read : {n : ℕ} → When magic s n → readCode (readOf magic s) ≡ n
+  when-read w = read-code ∙ when-told magic s w
+
+  lookup-code : (kind : ℕ) → tlvCode (lookupOf magic kind s) ≡ codeOf (checkOf magic s)
+  unfolding lookupOf
+  lookup-code kind =
+      let p = firstOfType kind (tailOf s) in
+      by-code tlvCode lookup.Refused (λ x. refl) (checkOf magic s) _ (found-zero (ltb p (length (tailOf s))) (fixedSize (typeOf s) + p + 4))
+    where
+      found-zero : (b : Bool) (n : ℕ) → tlvCode (pick b (lookup.Found n) lookup.Absent) ≡ 0
+      found-zero true n = refl
+      found-zero false n = refl
+
+  pub lookup-told : (kind : ℕ) → When magic s (tlvCode (lookupOf magic kind s))
+  lookup-told kind = subst (When magic s) (sym (lookup-code kind)) (told magic s)
+
+  pub when-lookup : (kind : ℕ) {n : ℕ} → When magic s n → tlvCode (lookupOf magic kind s) ≡ n
+  when-lookup kind w = lookup-code kind ∙ when-told magic s w
+
+  -- the suffix: 3 where the message is no Announce
+  suffix-zero : (x : Suffix) → suffixCode (suffixAnswer x) ≡ 0
+  suffix-zero (suffix.Flags n) = refl
+  suffix-zero suffix.Absent = refl
+
+  pub suffix-told : TakesWhen magic 0xB s (suffixCode (suffixOf magic s))
+  unfolding suffixOf
+  suffix-told = takes-told suffixCode flags.Refused (λ x. refl) magic 0xB s _ (suffix-zero (suffixIn magic (tailOf s)))
+
+  pub when-suffix : {n : ℕ} → TakesWhen magic 0xB s n → suffixCode (suffixOf magic s) ≡ n
+  unfolding suffixOf
+  when-suffix w = when-takes suffixCode flags.Refused (λ x. refl) magic 0xB s _ (suffix-zero (suffixIn magic (tailOf s))) w
+
+  -- the link message: 3 where the message is no Signaling
+  link-zero : (x : LinkFound) → linkCode (linkAnswer x) ≡ 0
+  link-zero (found.Message m) = refl
+  link-zero found.Absent = refl
+
+  pub link-told : TakesWhen magic 0xC s (linkCode (linkOf magic s))
+  unfolding linkOf
+  link-told = takes-told linkCode link.Refused (λ x. refl) magic 0xC s _ (link-zero (linkIn magic (tailOf s)))
+
+  pub when-link : {n : ℕ} → TakesWhen magic 0xC s n → linkCode (linkOf magic s) ≡ n
+  unfolding linkOf
+  when-link w = when-takes linkCode link.Refused (λ x. refl) magic 0xC s _ (link-zero (linkIn magic (tailOf s))) w
+
+  -- what intake reads: 3 where the message is no Announce
+  pub announced-told : TakesWhen magic 0xB s (announcedCode (announcedOf magic s))
+  unfolding announcedOf
+  announced-told = takes-told announcedCode announced.Refused (λ x. refl) magic 0xB s _ refl
+
+  pub when-announced : {n : ℕ} → TakesWhen magic 0xB s n → announcedCode (announcedOf magic s) ≡ n
+  unfolding announcedOf
+  when-announced w = when-takes announcedCode announced.Refused (λ x. refl) magic 0xB s _ refl w

@@ -9,6 +9,7 @@ use lib.Dec.{eqb}
 use lib.ListN.{length, length-take, length-drop}
 use Rattle.refusal.specs.Choice.{pick, refuse}
 use Rattle.refusal.proofs.Choice.{passed}
+pub use Rattle.refusal.proofs.Choice.{no-refusal}
 use Rattle.refusal.specs.declared.Refusal.{Refusal}
 use Rattle.refusal.specs.declared.Outcome.{Outcome}
 use Rattle.refusal.specs.declared.Outcome.the-variants.{Done, Refused}
@@ -55,9 +56,6 @@ size-most kind = most-by (eqb kind 0x0) (eqb kind 0x1) (eqb kind 0x8) (eqb kind 
 pub no-tail : (magic : ℕ) → tailCheck magic [] ≡ Done
 unfolding tailCheck refuse walk walkBy
 no-tail magic = refl
-
-pub no-refusal : (x : Refusal) → Refused x ≡ Done → ⊥
-no-refusal x e = let z : _≡_ {A = ℕ} 0 1 = cc in omega arith
 
 -- all the checks are passed
 pub record Accepted (magic : ℕ) (s : List ℕ) : Type 0 where

@@ -1,11 +1,11 @@
--- What `lookup` hands back is the data of the first TLV of the type, as a part of the message lent; nothing where the
--- message is refused or has no such TLV.
+-- What `lookup` hands back is the data of the first TLV of the type that the walk comes to, as a part of the message lent;
+-- nothing where the message is refused or has no such TLV.
 use Prim.Native.Nat.{ℕ, zero, suc, _+_, _-_, _<_, _≤_}
-use mathlib.Core.Path.{_≡_, refl, sym, ap, _∙_}
+use mathlib.Core.Path.{_≡_, refl, sym, ap, subst, _∙_}
 use mathlib.Core.List.{List, [], _∷_}
 use mathlib.Core.Bool.{Bool, true, false}
 use native.Mathlib.Omega.{arith}
-use borrow.Author.Tests.{ltb-true, eqb-true}
+use borrow.Author.Tests.{lt-ltb, le-ltb, ltb-true, ltb-false, ne-eqb, eqb-true, eqb-false}
 use lib.Dec.{ltb}
 use lib.ListN.{length, take, drop, length-take, length-drop}
 use lib.Seq.{take-take, drop-drop, getD-take}
@@ -15,15 +15,20 @@ use Rattle.refusal.specs.Choice.{pick}
 use Rattle.refusal.specs.declared.Refusal.{Refusal}
 use Rattle.refusal.specs.declared.Outcome.{Outcome}
 use Rattle.refusal.specs.declared.Outcome.the-variants as outcome
-use Rattle.tlv.specs.Walk.{sizeAt, walkBy, walk}
+use Rattle.tlv.specs.Walk.{typeAt, sizeAt, walkBy, walk, TlvAt, FirstTlv}
+use Rattle.tlv.specs.Faults.{soughtAt}
 use Rattle.tlv.specs.declared.walk.Sought.the-variants.{OfType}
 use Rattle.tlv.proofs.FaultLaws.{place-found}
+use Rattle.tlv.proofs.Reached.{first-inside, found-first, first-is}
+use Rattle.tlv.proofs.Reached as walked
 use Rattle.message.specs.Fields.{typeOf, lengthOf, fixedSize, tailOf}
 use Rattle.message.specs.Reading.{checkOf, by}
 use Rattle.message.specs.Parts.{firstOfType, tailIn, dataIn, lookupOf, IsWithin, dataLength}
 use Rattle.message.specs.declared.parts.TlvRead.{TlvRead}
 use Rattle.message.specs.declared.parts.TlvRead.the-variants.{Found, Absent, Refused}
+use Rattle.message.specs.When.{When}
 use Rattle.message.proofs.Laws.{bounded, tail-length}
+use Rattle.message.proofs.Exactly.{none-refused, when-told}
 
 -- a part of what was taken is the same part of the whole
 inside : (a l n : ℕ) (s : List ℕ) → a + l ≤ n → take l (drop a (take n s)) ≡ take l (drop a s)
@@ -76,6 +81,8 @@ module _ (magic kind : ℕ) (s : List ℕ) where
     pub type-is : be 2 s (at - 4) ≡ kind
     -- and all of it lies before messageLength
     pub inside-message : at + be 2 s (at - 2) ≤ lengthOf s
+    -- FOUND MEANS REACHED: it is the first TLV of that type that the walk over the tail comes to
+    pub first-tlv : FirstTlv (soughtAt (OfType kind) (tailOf s)) (tailOf s) (at - 4 - fixedSize (typeOf s))
 
   pub found-part : {at : ℕ} → lookupOf magic kind s ≡ Found at → Part at
   unfolding lookupOf dataIn tailIn place
@@ -99,7 +106,34 @@ module _ (magic kind : ℕ) (s : List ℕ) where
             ∙ ap (take (be 2 s (at - 2))) (drop-drop (place + 4) (fixedSize (typeOf s)) s ∙ ap (λ (k : ℕ). drop k s) at-is));
         type-is = sym type ∙ eqb-true (be 2 (tailOf s) place) kind (w .passes);
         inside-message = omega arith;
+        first-tlv =
+            let k : place ≡ at - 4 - fixedSize (typeOf s) = omega arith in
+            subst (FirstTlv (soughtAt (OfType kind) (tailOf s)) (tailOf s)) k (found-first (soughtAt (OfType kind) (tailOf s)) (tailOf s) l);
       }
+
+  -- of a message that is read the first TLV of the type is found
+  pub first-is-found : {p : ℕ} → When magic s 0 → FirstTlv (soughtAt (OfType kind) (tailOf s)) (tailOf s) p → lookupOf magic kind s ≡ Found (fixedSize (typeOf s) + p + 4)
+  unfolding lookupOf
+  first-is-found {p} w f =
+      rw (none-refused (checkOf magic s) (when-told magic s w), first-is (soughtAt (OfType kind) (tailOf s)) (tailOf s) f, lt-ltb p (length (tailOf s)) (f .at .inside))
+
+  -- ABSENT MEANS THAT THERE IS NONE: where no TLV of the type is found, none of the tail has it
+  pub absent-none : lookupOf magic kind s ≡ Absent → (p : ℕ) → TlvAt (tailOf s) p → typeAt (tailOf s) p ≡ kind → ⊥
+  unfolding lookupOf place
+  absent-none e p v t =
+      let d = absent-done (checkOf magic s) _ e in
+      let f = absent-by (ltb place (length (tailOf s))) (fixedSize (typeOf s) + place + 4) (d .1) in
+      let l = ltb-false place (length (tailOf s)) f in
+      let i = first-inside (soughtAt (OfType kind) (tailOf s)) (tailOf s) in
+      let k : place ≡ length (tailOf s) = omega (arith, l, i) in
+      eqb-false _ _ (walked.absent-none (soughtAt (OfType kind) (tailOf s)) (tailOf s) k p v) t
+
+  -- and where none has it, a message that is read says so
+  pub none-absent : When magic s 0 → ((p : ℕ) → TlvAt (tailOf s) p → typeAt (tailOf s) p ≡ kind → ⊥) → lookupOf magic kind s ≡ Absent
+  unfolding lookupOf
+  none-absent w n =
+      let e = walked.none-absent (soughtAt (OfType kind) (tailOf s)) (tailOf s) (λ p v. ne-eqb _ _ (n p v)) in
+      rw (none-refused (checkOf magic s) (when-told magic s w), e, le-ltb (length (tailOf s)) (length (tailOf s)) (omega arith))
 
   -- it is empty if refused
   pub empty-refused : {x : Refusal} → checkOf magic s ≡ outcome.Refused x → dataIn magic kind s ≡ []

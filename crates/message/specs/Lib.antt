@@ -3,3 +3,5 @@ pub mod Reading
 pub mod Parts
 pub mod Sound
 pub mod When
+pub mod Answers
+pub mod Ignored

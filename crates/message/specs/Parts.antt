@@ -83,16 +83,6 @@ announcedOf magic s =
     (refuse (not (eqb (typeOf s) 0xB)) (announced.Refused «Type»)
     (announced.Whole (record { header = headerOf s; announce = announceOf s; flags = wrFlagsOf (suffixIn magic (tailOf s)) })))
 
--- messageLength of octets that are an Announce as far as version, type and lengths go, 0 of any others
-unfoldable pub announceLength : List ℕ → ℕ
-announceLength s =
-    refuse (ltb (length s) 64) 0
-    (refuse (not (eqb (versionOf s) 2)) 0
-    (refuse (not (eqb (typeOf s) 0xB)) 0
-    (refuse (ltb (lengthOf s) 64) 0
-    (refuse (ltb (length s) (lengthOf s)) 0
-    (lengthOf s)))))
-
 -- what refuses octets that are no Announce
 unfoldable pub refusalOf : ℕ → List ℕ → Refusal
 refusalOf magic s = by (checkOf magic s) (λ x. x) «Type»
@@ -107,3 +97,15 @@ linkOf magic s =
     by (checkOf magic s) link.Refused
     (refuse (not (eqb (typeOf s) 0xC)) (link.Refused «Type»)
     (linkAnswer (linkIn magic (tailOf s))))
+
+-- ---- WHAT ONLY THE CODE NEEDS: steps on the way to the answers above, and no rule of 01
+
+-- messageLength of octets that are an Announce as far as version, type and lengths go, 0 of any others
+unfoldable pub announceLength : List ℕ → ℕ
+announceLength s =
+    refuse (ltb (length s) 64) 0
+    (refuse (not (eqb (versionOf s) 2)) 0
+    (refuse (not (eqb (typeOf s) 0xB)) 0
+    (refuse (ltb (lengthOf s) 64) 0
+    (refuse (ltb (length s) (lengthOf s)) 0
+    (lengthOf s)))))

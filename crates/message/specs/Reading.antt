@@ -4,6 +4,7 @@ use mathlib.Core.List.{List}
 use mathlib.Core.Bool.{Bool, not, _&&_}
 use lib.Dec.{eqb, ltb, leb}
 use lib.ListN.{length}
+use Rattle.refusal.specs.Limits.{secondNanos}
 use Rattle.octets.specs.Be.{be}
 use Rattle.refusal.specs.Choice.{refuse}
 use Rattle.refusal.specs.declared.Refusal.{Refusal}
@@ -17,7 +18,7 @@ use Rattle.message.specs.declared.reading.Reading.the-variants as readin
 
 -- "a timestamp's nanoseconds are 1,000,000,000 or more"; a Signaling has none
 abbrev pub badStamp : ℕ → List ℕ → Bool
-badStamp kind s = not (eqb kind 0xC) && leb 1000000000 (be 4 s 40)
+badStamp kind s = not (eqb kind 0xC) && leb secondNanos (be 4 s 40)
 
 -- "Reading checks in this order: under 34 octets (1), 2, 3, 4, messageLength (1), 5, 6, 7."
 unfoldable pub checkOf : ℕ → List ℕ → Outcome

@@ -1,16 +1,13 @@
--- "Given exactly when" of the table (01, "Numbers that refuse"), with the order in which reading looks: for each answer
--- of the checks, what the octets are like. `told` and `when-told` in proofs/Exactly.antt are the two directions.
+-- "Given exactly when" of the table (01, "Numbers that refuse"), with the order in which reading looks: for each number
+-- that the checks give, what the octets are like, 0 where nothing is refused. In proofs/Exactly.antt each answer of a call has its
+-- line here, and each line that holds is the answer.
 use Prim.Native.Nat.{ℕ, _≤_, _<_}
 use mathlib.Core.Path.{_≡_}
 use mathlib.Core.List.{List}
 use mathlib.Core.Bool.{true, false}
-use mathlib.Core.Logic.{_⊎_}
 use lib.ListN.{length}
-use Rattle.octets.specs.Be.{be}
-use Rattle.refusal.specs.declared.Refusal.the-variants.{Short, Version, «Type», Length, Stamp, Tlv, WrBad, Port, Domain, Own, Backward, Stale, Full, Range, Unranked, Room, Many, Field}
-use Rattle.refusal.specs.declared.Outcome.{Outcome}
-use Rattle.refusal.specs.declared.Outcome.the-variants.{Done, Refused}
-use Rattle.tlv.specs.Faults.{whole, misfit}
+use Rattle.tlv.specs.Walk.{Reached, TlvAt, NoTlv}
+use Rattle.tlv.specs.Form.{misfitAt}
 use Rattle.message.specs.Fields.{typeOf, versionOf, lengthOf, fixedSize, tailOf}
 use Rattle.message.specs.Reading.{badStamp}
 
@@ -33,35 +30,33 @@ IsLent s = IsSized s × (lengthOf s ≤ length s)
 abbrev pub IsStamped : List ℕ → Type 0
 IsStamped s = IsLent s × (badStamp (typeOf s) s ≡ false)
 
+-- the walk comes to the end of the tail
 abbrev pub IsWhole : List ℕ → Type 0
-IsWhole s = IsStamped s × (whole (tailOf s) ≡ true)
+IsWhole s = IsStamped s × Reached (tailOf s) (length (tailOf s))
 
-abbrev pub When : ℕ → List ℕ → Outcome → Type 0
--- all is passed, and no known WR message has a wrong data size
-When magic s Done = IsWhole s × (misfit magic (tailOf s) 0 ≡ length (tailOf s))
--- "fewer than 34 octets lent, or messageLength exceeds those lent"
-When magic s (Refused Short) = (length s < 34) ⊎ (IsSized s × (length s < lengthOf s))
--- "versionPTP is not 2"
-When magic s (Refused Version) = HasHeader s × (versionOf s ≡ 2 → ⊥)
--- "message type not listed below"
-When magic s (Refused «Type») = IsTwo s × (fixedSize (typeOf s) ≡ 0)
--- "messageLength below the type's fixed size"
-When magic s (Refused Length) = IsListed s × (lengthOf s < fixedSize (typeOf s))
--- "a timestamp's nanoseconds are 1,000,000,000 or more"
-When magic s (Refused Stamp) = IsLent s × (badStamp (typeOf s) s ≡ true)
--- "the tail is not whole TLVs of even length"
-When magic s (Refused Tlv) = IsStamped s × (whole (tailOf s) ≡ false)
--- "a known WR message with a wrong data size"
-When magic s (Refused WrBad) = IsWhole s × (misfit magic (tailOf s) 0 ≡ length (tailOf s) → ⊥)
--- reading gives no other number
-When magic s (Refused Port) = ⊥
-When magic s (Refused Domain) = ⊥
-When magic s (Refused Own) = ⊥
-When magic s (Refused Backward) = ⊥
-When magic s (Refused Stale) = ⊥
-When magic s (Refused Full) = ⊥
-When magic s (Refused Range) = ⊥
-When magic s (Refused Unranked) = ⊥
-When magic s (Refused Room) = ⊥
-When magic s (Refused Many) = ⊥
-When magic s (Refused Field) = ⊥
+-- "Reading checks in this order: under 34 octets (1), 2, 3, 4, messageLength (1), 5, 6, 7."
+pub data When (magic : ℕ) (s : List ℕ) : ℕ → Type 0 where
+  -- "fewer than 34 octets lent"
+  few : length s < 34 → When magic s 1
+  -- "versionPTP is not 2"
+  version : HasHeader s → (versionOf s ≡ 2 → ⊥) → When magic s 2
+  -- "message type not listed below"
+  unlisted : IsTwo s → fixedSize (typeOf s) ≡ 0 → When magic s 3
+  -- "messageLength below the type's fixed size"
+  below : IsListed s → lengthOf s < fixedSize (typeOf s) → When magic s 4
+  -- "or messageLength exceeds those lent"
+  beyond : IsSized s → length s < lengthOf s → When magic s 1
+  -- "a timestamp's nanoseconds are 1,000,000,000 or more"
+  stamp : IsLent s → badStamp (typeOf s) s ≡ true → When magic s 5
+  -- "the tail is not whole TLVs of even length"
+  tlv : IsStamped s → (Reached (tailOf s) (length (tailOf s)) → ⊥) → When magic s 6
+  -- "a known WR message with a wrong data size"
+  wrbad : IsWhole s → {p : ℕ} → TlvAt (tailOf s) p → misfitAt magic (tailOf s) p ≡ true → When magic s 7
+  -- nothing is refused
+  sound : IsWhole s → NoTlv (misfitAt magic (tailOf s)) (tailOf s) → When magic s 0
+
+-- a call that takes messages of one type: the reading checks, then 3 where the type is "not the one the call takes"
+pub data TakesWhen (magic kind : ℕ) (s : List ℕ) : ℕ → Type 0 where
+  unread : {n : ℕ} → When magic s n → 0 < n → TakesWhen magic kind s n
+  other : When magic s 0 → (typeOf s ≡ kind → ⊥) → TakesWhen magic kind s 3
+  taken : When magic s 0 → typeOf s ≡ kind → TakesWhen magic kind s 0

@@ -63,7 +63,7 @@ pub fn read_announce(s: &[u8], magic: u16) -> Announced
         return Announced::Refused(refusal_of(s, magic));
     }
     let nanoseconds = octets::held::u32_at(s, 40);
-    if 1_000_000_000 <= nanoseconds {
+    if refusal::SECOND_NANOS <= nanoseconds {
         return Announced::Refused(refusal_of(s, magic));
     }
     let t = &s[64..length];

@@ -25,7 +25,7 @@ pub fn bad_stamp(s: &[u8], kind: u8) -> bool
     if kind == SIGNALING {
         return false;
     }
-    octets::held::u32_at(s, 40) >= 1_000_000_000
+    octets::held::u32_at(s, 40) >= refusal::SECOND_NANOS
 }
 
 // The checks: under 34 octets, 2, 3, 4, messageLength, 5, then the tail's 6 and 7.

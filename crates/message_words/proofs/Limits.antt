@@ -1,7 +1,7 @@
 -- The limits of words tell what `isWhole` says: a number that is read out of its word and put back is the word where the word is below the limit.
 use Prim.Native.Nat.{ℕ, zero, suc, _+_, _-_, _%_, _<_, _≤_}
 use mathlib.Core.Path.{_≡_, refl, sym, _∙_, ap}
-use mathlib.Core.Bool.{Bool, true, false, _&&_, _||_}
+use mathlib.Core.Bool.{Bool, true, false, _&&_, _||_, and-assoc, and-true}
 use mathlib.Core.List.{List, [], _∷_}
 use native.Mathlib.Omega.{arith}
 use lib.Dec.{eqb, leb, ltb}
@@ -97,14 +97,6 @@ module _ (x : ℕ) (h : x < 0x10000000000000000) where
   -- of eight octets: every word
   pub signed64 : true ≡ signed64Fits x
   signed64 = sym (eq-eqb _ _ (ofZ-toZ w64 x (record { fits = h })))
-
-and-assoc : (a b c : Bool) → ((a && b) && c) ≡ (a && (b && c))
-and-assoc true b c = refl
-and-assoc false b c = refl
-
-and-true : (a : Bool) → (a && true) ≡ a
-and-true true = refl
-and-true false = refl
 
 -- the words of a list one by one are the list
 one-by-one : (n k : ℕ) (w : List ℕ) → k + n ≡ length w → spread n k w ≡ drop k w

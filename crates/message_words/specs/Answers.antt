@@ -1,13 +1,14 @@
 -- What reading answers: the number returned, and the words at exit, which a refusal leaves as they were.
 use Prim.Native.Nat.{ℕ}
 use mathlib.Core.List.{List, [], _∷_}
-use Rattle.refusal.specs.Refusal.{numberOf}
 use Rattle.refusal.specs.declared.Outcome.{Outcome}
 use Rattle.refusal.specs.declared.Outcome.the-variants as outcome
 use Rattle.octets.specs.Be.{be}
 use Rattle.layout.specs.Layout.{sizeOf}
+use Rattle.tlv.specs.Numbers.{SLAVE-PRESENT, LOCK, LOCKED, CALIBRATE, CALIBRATED, WR-MODE-ON}
 use Rattle.tlv.specs.declared.wr.LinkMessage.{LinkMessage}
 use Rattle.tlv.specs.declared.wr.LinkMessage.the-variants.{SlavePresent, Lock, Locked, Calibrate, Calibrated, ModeOn}
+pub use Rattle.message.specs.Answers.{readCode, tlvCode, suffixCode, linkCode}
 use Rattle.message.specs.declared.reading.Reading.{Reading}
 use Rattle.message.specs.declared.reading.Reading.the-variants as reading
 use Rattle.message.specs.declared.parts.TlvRead.{TlvRead}
@@ -17,10 +18,6 @@ use Rattle.message.specs.declared.parts.SuffixRead.the-variants as flags
 use Rattle.message.specs.declared.parts.LinkRead.{LinkRead}
 use Rattle.message.specs.declared.parts.LinkRead.the-variants as link
 use Rattle.message_words.specs.Words.{messageWords}
-
-abbrev pub readCode : Reading → ℕ
-readCode (reading.Whole m) = 0
-readCode (reading.Refused x) = numberOf x
 
 abbrev pub readWords : Reading → List ℕ → List ℕ
 readWords (reading.Whole m) out = messageWords m
@@ -32,22 +29,12 @@ tailWords (reading.Whole m) size out = sizeOf (m .body) ∷ size ∷ []
 tailWords (reading.Refused x) size out = out
 
 -- 1, where the data begin in the message, and how many octets they are; zeros where there is none
-abbrev pub tlvCode : TlvRead → ℕ
-tlvCode (lookup.Found at) = 0
-tlvCode lookup.Absent = 0
-tlvCode (lookup.Refused x) = numberOf x
-
 abbrev pub tlvWords : TlvRead → ℕ → List ℕ → List ℕ
 tlvWords (lookup.Found at) size out = 1 ∷ at ∷ size ∷ []
 tlvWords lookup.Absent size out = 0 ∷ 0 ∷ 0 ∷ []
 tlvWords (lookup.Refused x) size out = out
 
 -- 1 and wrFlags, or zeros
-abbrev pub suffixCode : SuffixRead → ℕ
-suffixCode (flags.Flags n) = 0
-suffixCode flags.Absent = 0
-suffixCode (flags.Refused x) = numberOf x
-
 abbrev pub suffixWords : SuffixRead → List ℕ → List ℕ
 suffixWords (flags.Flags n) out = 1 ∷ n ∷ []
 suffixWords flags.Absent out = 0 ∷ 0 ∷ []
@@ -55,19 +42,14 @@ suffixWords (flags.Refused x) out = out
 
 -- NUMBER PATTERN RETRY PERIOD TX RX, zeros for what it does not carry
 abbrev pub linkMessageWords : LinkMessage → List ℕ
-linkMessageWords SlavePresent = 0x1000 ∷ 0 ∷ 0 ∷ 0 ∷ 0 ∷ 0 ∷ []
-linkMessageWords Lock = 0x1001 ∷ 0 ∷ 0 ∷ 0 ∷ 0 ∷ 0 ∷ []
-linkMessageWords Locked = 0x1002 ∷ 0 ∷ 0 ∷ 0 ∷ 0 ∷ 0 ∷ []
-linkMessageWords (Calibrate pattern retry period) = 0x1003 ∷ pattern ∷ retry ∷ period ∷ 0 ∷ 0 ∷ []
-linkMessageWords (Calibrated tx rx) = 0x1004 ∷ 0 ∷ 0 ∷ 0 ∷ tx ∷ rx ∷ []
-linkMessageWords ModeOn = 0x1005 ∷ 0 ∷ 0 ∷ 0 ∷ 0 ∷ 0 ∷ []
+linkMessageWords SlavePresent = SLAVE-PRESENT ∷ 0 ∷ 0 ∷ 0 ∷ 0 ∷ 0 ∷ []
+linkMessageWords Lock = LOCK ∷ 0 ∷ 0 ∷ 0 ∷ 0 ∷ 0 ∷ []
+linkMessageWords Locked = LOCKED ∷ 0 ∷ 0 ∷ 0 ∷ 0 ∷ 0 ∷ []
+linkMessageWords (Calibrate pattern retry period) = CALIBRATE ∷ pattern ∷ retry ∷ period ∷ 0 ∷ 0 ∷ []
+linkMessageWords (Calibrated tx rx) = CALIBRATED ∷ 0 ∷ 0 ∷ 0 ∷ tx ∷ rx ∷ []
+linkMessageWords ModeOn = WR-MODE-ON ∷ 0 ∷ 0 ∷ 0 ∷ 0 ∷ 0 ∷ []
 
 -- 1 and the link message, or zeros
-abbrev pub linkCode : LinkRead → ℕ
-linkCode (link.Message m) = 0
-linkCode link.Absent = 0
-linkCode (link.Refused x) = numberOf x
-
 abbrev pub linkWords : LinkRead → List ℕ → List ℕ
 linkWords (link.Message m) out = 1 ∷ linkMessageWords m
 linkWords link.Absent out = 0 ∷ 0 ∷ 0 ∷ 0 ∷ 0 ∷ 0 ∷ 0 ∷ []

@@ -46,21 +46,34 @@ pub fn put_suffix(out: &mut [u64; 2], x: SuffixRead) -> u64
     }
 }
 
+// The numbers of link messages as words.
+pub const SLAVE_PRESENT: u64 = tlv::form::SLAVE_PRESENT as u64;
+
+pub const LOCK: u64 = tlv::form::LOCK as u64;
+
+pub const LOCKED: u64 = tlv::form::LOCKED as u64;
+
+pub const CALIBRATE: u64 = tlv::form::CALIBRATE as u64;
+
+pub const CALIBRATED: u64 = tlv::form::CALIBRATED as u64;
+
+pub const MODE_ON: u64 = tlv::form::MODE_ON as u64;
+
 // A link message in six words: its number, pattern, retry, period, deltaTx, deltaRx; zeros for those it does not carry.
 pub fn link_message_words(m: LinkMessage) -> [u64; 6]
     ensures { λ r. ⌜ r ≡ linkMessageWords m ⌝ }
 {
     match m {
-        LinkMessage::SlavePresent => [0x1000, 0, 0, 0, 0, 0],
-        LinkMessage::Lock => [0x1001, 0, 0, 0, 0, 0],
-        LinkMessage::Locked => [0x1002, 0, 0, 0, 0, 0],
+        LinkMessage::SlavePresent => [SLAVE_PRESENT, 0, 0, 0, 0, 0],
+        LinkMessage::Lock => [LOCK, 0, 0, 0, 0, 0],
+        LinkMessage::Locked => [LOCKED, 0, 0, 0, 0, 0],
         LinkMessage::Calibrate {
             pattern,
             retry,
             period,
-        } => [0x1003, pattern as u64, retry as u64, period as u64, 0, 0],
-        LinkMessage::Calibrated { tx, rx } => [0x1004, 0, 0, 0, tx, rx],
-        LinkMessage::ModeOn => [0x1005, 0, 0, 0, 0, 0],
+        } => [CALIBRATE, pattern as u64, retry as u64, period as u64, 0, 0],
+        LinkMessage::Calibrated { tx, rx } => [CALIBRATED, 0, 0, 0, tx, rx],
+        LinkMessage::ModeOn => [MODE_ON, 0, 0, 0, 0, 0],
     }
 }
 

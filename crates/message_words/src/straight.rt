@@ -4,12 +4,15 @@ ghost use mathlib.Core.Path.{_≡_};
 ghost use mathlib.Core.List.{[]};
 ghost use Prim.Native.Nat.{_≤_, _<_};
 ghost use lib.ListN.{length};
-ghost use Rattle.layout.specs.Layout.{kindOf, controlOf, sizeOf, headerOctets, firstOctets, moreOctets, bodyOctets, over};
+ghost use Rattle.layout.specs.Layout.{kindOf, controlOf, sizeOf, headerOctets, bodyOctets, over};
 ghost use Rattle.writer.specs.Writing.{stampFits, bodyFits, writeCheck, writeOf, bufferOf};
 ghost use Rattle.message_words.specs.Words.{stampOf, headerOf, bodyOf, messageOf};
 use refusal::Outcome;
 use refusal::Refusal;
 use writer::writing::Written;
+
+// The nanoseconds of a second, as a word.
+const NANOS: u64 = refusal::SECOND_NANOS as u64;
 
 // The type of the message.
 fn kind_of(w: &[u64; 20]) -> u8
@@ -60,7 +63,7 @@ fn size_of(w: &[u64; 20]) -> usize
 fn stamp_holds(w: &[u64; 20]) -> bool
     ensures { λ r. ⌜ r ≡ stampFits (stampOf (now (w .entry))) ⌝ }
 {
-    (w[9] < 0x1_0000_0000_0000) & (w[10] % 0x1_0000_0000 < 1_000_000_000)
+    (w[9] < 0x1_0000_0000_0000) & (w[10] % 0x1_0000_0000 < NANOS)
 }
 
 // The same by its type; a Signaling has no timestamp.
@@ -117,45 +120,26 @@ fn put_header(out: &mut [u8], w: &[u64; 20], size: u16)
     layout::put_close(out, h, control);
 }
 
-// Octets 34 to 43: the timestamp, in a Signaling the target.
-fn put_first(out: &mut [u8], w: &[u64; 20])
-    requires { ⌜ 44 ≤ length (now out) ⌝ }
-    ensures { λ _. ⌜ now (out .exit) ≡ over (now (out .entry)) 34 (firstOctets (bodyOf (now (w .entry))) []) ⌝ }
+// What stands behind the header: the timestamp, in a Signaling the target; from octet 44 on what a Delay_Resp and an Announce have.
+fn put_body(out: &mut [u8], w: &[u64; 20])
+    requires { ⌜ sizeOf (bodyOf (now w)) ≤ length (now out) ⌝ }
+    ensures { λ _. ⌜ now (out .exit) ≡ over (now (out .entry)) 34 (bodyOctets (bodyOf (now (w .entry))) []) ⌝ }
 {
     let kind = w[0];
     match kind {
         0x0 => layout::put_stamp(out, crate::stamp_of(w)),
         0x1 => layout::put_stamp(out, crate::stamp_of(w)),
         0x8 => layout::put_stamp(out, crate::stamp_of(w)),
-        0x9 => layout::put_stamp(out, crate::stamp_of(w)),
-        0xB => layout::put_stamp(out, crate::stamp_of(w)),
+        0x9 => {
+            layout::put_stamp(out, crate::stamp_of(w));
+            layout::put_identity(out, 44, crate::identity_at(w, 11));
+        }
+        0xB => {
+            layout::put_stamp(out, crate::stamp_of(w));
+            layout::put_announce(out, crate::announce_of(w));
+        }
         _ => layout::put_identity(out, 34, crate::identity_at(w, 9)),
     }
-}
-
-// What a Delay_Resp and an Announce have from octet 44 on.
-fn put_more(out: &mut [u8], w: &[u64; 20])
-    requires { ⌜ sizeOf (bodyOf (now w)) ≤ length (now out) ⌝ }
-    ensures { λ _. ⌜ now (out .exit) ≡ over (now (out .entry)) 44 (moreOctets (bodyOf (now (w .entry))) []) ⌝ }
-{
-    let kind = w[0];
-    match kind {
-        0x0 => {}
-        0x1 => {}
-        0x8 => {}
-        0x9 => layout::put_identity(out, 44, crate::identity_at(w, 11)),
-        0xB => layout::put_announce(out, crate::announce_of(w)),
-        _ => {}
-    }
-}
-
-// What stands behind the header.
-fn put_body(out: &mut [u8], w: &[u64; 20])
-    requires { ⌜ sizeOf (bodyOf (now w)) ≤ length (now out) ⌝ }
-    ensures { λ _. ⌜ now (out .exit) ≡ over (now (out .entry)) 34 (bodyOctets (bodyOf (now (w .entry))) []) ⌝ }
-{
-    put_first(out, w);
-    put_more(out, w);
 }
 
 // The message and its tail go into the front of the buffer.

@@ -2,6 +2,11 @@
 ghost use mathlib.Core.Path.{_≡_};
 ghost use Prim.Native.Nat.{_≤_};
 ghost use Rattle.message_words.specs.Writing.{linkMessageOf, linkWordsFor, isLink, writtenCode, writtenWords};
+use crate::answers::CALIBRATE;
+use crate::answers::CALIBRATED;
+use crate::answers::LOCK;
+use crate::answers::LOCKED;
+use crate::answers::SLAVE_PRESENT;
 use tlv::wr::LinkMessage;
 use writer::writing::Written;
 
@@ -11,15 +16,15 @@ pub fn link_message_of(w: &[u64; 6]) -> LinkMessage
 {
     let number = w[0];
     match number {
-        0x1000 => LinkMessage::SlavePresent,
-        0x1001 => LinkMessage::Lock,
-        0x1002 => LinkMessage::Locked,
-        0x1003 => LinkMessage::Calibrate {
+        SLAVE_PRESENT => LinkMessage::SlavePresent,
+        LOCK => LinkMessage::Lock,
+        LOCKED => LinkMessage::Locked,
+        CALIBRATE => LinkMessage::Calibrate {
             pattern: (w[1] % 256) as u8,
             retry: (w[2] % 256) as u8,
             period: (w[3] % 0x1_0000_0000) as u32,
         },
-        0x1004 => LinkMessage::Calibrated { tx: w[4], rx: w[5] },
+        CALIBRATED => LinkMessage::Calibrated { tx: w[4], rx: w[5] },
         _ => LinkMessage::ModeOn,
     }
 }
@@ -28,7 +33,7 @@ pub fn link_message_of(w: &[u64; 6]) -> LinkMessage
 fn words_for(number: u64) -> usize
     ensures { λ r. ⌜ (r ≡ linkWordsFor number) × (r ≤ 6) ⌝ }
 {
-    if number == 0x1003 { 4 } else { 1 }
+    if number == CALIBRATE { 4 } else { 1 }
 }
 
 // Whether words are those of the link message that is read out of them, each number within its field.

@@ -4,8 +4,7 @@ use Prim.Native.Nat.{ℕ}
 use mathlib.Core.Path.{_≡_, refl}
 use mathlib.Core.List.{List, [], _∷_}
 use Rattle.refusal.specs.Choice.{refuse}
-use Rattle.refusal.specs.declared.Refusal.the-variants.{Short, «Type»}
-use Rattle.refusal.specs.declared.Outcome.the-variants.{Refused}
+use Rattle.refusal.specs.Refusal.{codeOf}
 use Rattle.octets.specs.Be.{be}
 use Rattle.tlv.specs.Walk.{walkBy, walk}
 use Rattle.tlv.specs.Faults.{tailCheck}
@@ -34,24 +33,24 @@ unfolding originIn originCheck takesOf followCheck follows headerOf identityAt c
 sync-with-follow-up = refl
 
 -- a Follow_Up that has not arrived
-pub no-follow-up : originCheck 0xABCD (message 0 0 2 1 5 7) [] ≡ Refused Short
+pub no-follow-up : codeOf (originCheck 0xABCD (message 0 0 2 1 5 7) []) ≡ 1
 unfolding originCheck takesOf followCheck checkOf refuse be fixedSize tailCheck walk walkBy
 no-follow-up = refl
 
 -- another sequenceId, another domain, another port of the sender
-pub other-sequence : originCheck 0xABCD (message 0 0 2 1 5 7) (message 8 0 0 1 6 9) ≡ Refused «Type»
+pub other-sequence : codeOf (originCheck 0xABCD (message 0 0 2 1 5 7) (message 8 0 0 1 6 9)) ≡ 3
 unfolding originCheck takesOf followCheck follows headerOf identityAt checkOf refuse be fixedSize tailCheck walk walkBy
 other-sequence = refl
 
-pub other-domain : originCheck 0xABCD (message 0 0 2 1 5 7) (message 8 3 0 1 5 9) ≡ Refused «Type»
+pub other-domain : codeOf (originCheck 0xABCD (message 0 0 2 1 5 7) (message 8 3 0 1 5 9)) ≡ 3
 unfolding originCheck takesOf followCheck follows headerOf identityAt checkOf refuse be fixedSize tailCheck walk walkBy
 other-domain = refl
 
-pub other-sender : originCheck 0xABCD (message 0 0 2 1 5 7) (message 8 0 0 2 5 9) ≡ Refused «Type»
+pub other-sender : codeOf (originCheck 0xABCD (message 0 0 2 1 5 7) (message 8 0 0 2 5 9)) ≡ 3
 unfolding originCheck takesOf followCheck follows headerOf identityAt checkOf refuse be fixedSize tailCheck walk walkBy
 other-sender = refl
 
 -- a Delay_Req in the Sync's place
-pub no-sync : originCheck 0xABCD (message 1 0 0 1 5 7) [] ≡ Refused «Type»
+pub no-sync : codeOf (originCheck 0xABCD (message 1 0 0 1 5 7) []) ≡ 3
 unfolding originCheck takesOf checkOf refuse be fixedSize tailCheck walk walkBy
 no-sync = refl

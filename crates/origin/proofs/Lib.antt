@@ -1,4 +1,6 @@
 pub mod Laws
 pub mod Part
+pub mod Exactly
+pub mod Ignored
 pub mod Determined
 pub mod Edges

@@ -1,1 +1,2 @@
 pub mod Origin
+pub mod When

@@ -29,6 +29,7 @@ use Rattle.slots.proofs.Meaning.{Fitting}
 use Rattle.ports.specs.declared.intake.Settings.{Settings}
 use Rattle.ports.specs.declared.intake.Admitted.the-variants.{Refused, Notice}
 use Rattle.ports.specs.Intake.{noticeOf, judgedOf, admittedBy, admittedOf}
+use Rattle.ports.proofs.Laws.{unlike}
 
 flags-by : (t : List ℕ) (p : ℕ) (b : Bool) → wrFlagsOf (pick b (Flags (flagsAt t p)) Absent) < 0x10000
 flags-by t p true = omega arith
@@ -76,9 +77,6 @@ heard-by magic s h outcome.Done e =
 heard-is : (magic : ℕ) (s : List ℕ) (h : Heard) → announcedOf magic s ≡ announced.Whole h → heardOf magic s ≡ h
 unfolding announcedOf
 heard-is magic s h e = heard-by magic s h (checkOf magic s) e
-
-unlike : {x : Refusal} {a : kept.Notice} → Refused x ≡ Notice a → ⊥
-unlike {x} {a} e = let z : _≡_ {A = ℕ} 0 1 = cc in omega arith
 
 same-notice : {a b : kept.Notice} → Notice a ≡ Notice b → a ≡ b
 same-notice {a} {b} e = cc

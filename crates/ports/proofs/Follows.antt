@@ -1,6 +1,6 @@
 -- A port's words follow from its own calls: a call writes the words of its own port alone, and what it writes there is decided
 -- by them. So a port's state and answers are those of its own calls, whatever happens on the others.
-use mathlib.Core.Path.{_≡_, refl, sym, ap, _∙_}
+use mathlib.Core.Path.{_≡_, refl, sym, ap, subst, _∙_}
 use mathlib.Core.Bool.{Bool, true, false, not, _&&_}
 use mathlib.Core.List.{List, [], _∷_}
 use mathlib.Core.Logic.{⊎-elim}
@@ -135,6 +135,14 @@ module _ (ws : List ℕ) (n : length ws ≡ 1764) (c : Call) where
   pub own-after : (q : ℕ) → isPort q ≡ true → portOfCall c ≡ q → own (after ws c) q ≡ ownAfter (own ws q) c
   own-after q iq e =
       ap (own (after ws c)) (sym e) ∙ its (ap isPort e ∙ iq) ∙ ap (λ (p : ℕ). ownAfter (own ws p) c) e
+
+  -- so what its own call brings about and any other call leaves holds after every call
+  pub by-own : (P : List ℕ → Type 0) (q : ℕ) → isPort q ≡ true → (portOfCall c ≡ q → P (ownAfter (own ws q) c)) → P (own ws q) → P (own (after ws c) q)
+  by-own P q iq brings before = go (eqb (portOfCall c) q) refl
+    where
+      go : (b : Bool) → eqb (portOfCall c) q ≡ b → P (own (after ws c) q)
+      go true e = let f = eqb-true _ _ e in subst P (sym (own-after q iq f)) (brings f)
+      go false e = subst P (sym (frame q iq (λ f. eqb-false _ _ e (sym f)))) before
 
 -- ---- histories
 pub run-all : (ws : List ℕ) (cs : List Call) → length ws ≡ 1764 → length (run ws cs) ≡ 1764

@@ -13,6 +13,7 @@ use mir.Syntax.{w8}
 use mir.Val.{toZ, ofZ, SFits}
 use mir.ValLaws.{toZ-pos, toZ-neg}
 use borrow.Author.Tests.{not-true, not-false, leb-true, le-leb, lt-leb, lt-ltb, le-ltb}
+pub use Rattle.refusal.proofs.Limits.{port-bounds}
 use Rattle.refusal.specs.Choice.{refuse}
 use Rattle.refusal.specs.declared.Refusal.{Refusal}
 use Rattle.refusal.specs.declared.Refusal.the-variants.{Port, Field}
@@ -34,26 +35,6 @@ use Rattle.ports.specs.Intake.{admittedOf, admittedBy, planBy, planAt, s
 use Rattle.ports.specs.Interval.{isInterval, inRange, intervalOf, setBy, afterBy, intervalSet, intervalAfter}
 use Rattle.message.specs.Parts.{announcedOf}
 
--- ---- a port from 1 to 18
-and-parts : (x y : Bool) → (x && y) ≡ true → (x ≡ true) × (y ≡ true)
-and-parts true true e = (refl, refl)
-and-parts true false e = (refl, e)
-and-parts false y e = (e, absurd (let z : _≡_ {A = ℕ} 0 1 = cc in omega arith))
-
-pub port-bounds : (port : ℕ) → isPort port ≡ true → (1 ≤ port) × (port ≤ 18)
-port-bounds port h =
-    let e = and-parts (leb 1 port) (leb port 18) h in
-    (leb-true 1 port (e .0), leb-true port 18 (e .1))
-
-module _ {A : Type 0} (port : ℕ) (b : Bool) (e : b ≡ isPort port) (x y : A) where
-  pub no-port : not b ≡ true → x ≡ refuse (not (isPort port)) x y
-  unfolding refuse
-  no-port h = rw (sym e ∙ not-true _ h)
-
-  pub on-port : (z : A) → not b ≡ false → z ≡ y → z ≡ refuse (not (isPort port)) x y
-  unfolding refuse
-  on-port z h f = rw (sym e ∙ not-false _ h) f
-
 -- the part that is lent is the port's own
 pub lent-own : (ws : List ℕ) (port b : ℕ) → b ≡ 98 * (port - 1) → take (b + 98 - b) (drop b ws) ≡ own ws port
 lent-own ws port b e = lent ws b 98 ∙ ap (λ (k : ℕ). block ws k 98) e
@@ -68,7 +49,8 @@ with-own ws port =
     ∙ take-append-drop b ws
 
 -- ---- taking
-unlike : {x : Refusal} {a : kept.Notice} → Refused x ≡ Notice a → ⊥
+-- what is refused is no notice
+pub unlike : {x : Refusal} {a : kept.Notice} → Refused x ≡ Notice a → ⊥
 unlike {x} {a} e = let z : _≡_ {A = ℕ} 0 1 = cc in omega arith
 
 -- what is admitted is on a port

@@ -9,6 +9,7 @@ use lib.Dec.{eqb}
 use lib.ListN.{length, getD, take, drop, set}
 use lib.Seq.{drop-set-lt, getD-drop}
 use borrow.Author.Tests.{eqb-true, eqb-false, le-ltb}
+use Rattle.laws.proofs.Bools.{clash}
 use Rattle.octets.proofs.Laws.{Octets}
 use Rattle.refusal.specs.Choice.{pick, refuse}
 use Rattle.refusal.specs.declared.Refusal.the-variants.{Full}
@@ -34,7 +35,7 @@ use Rattle.ports.specs.Intake.{admittedOf, planBy, planAt, stateAfter}
 use Rattle.ports.specs.Interval.{isInterval, exponentOf}
 use Rattle.ports.specs.Asking.{candidateOn}
 use Rattle.ports.specs.History.{Call, taking, setting, asking, portOfCall, after, run, ownAfter, fresh, Spares, LivesThrough, OctetCall, OctetCalls}
-use Rattle.ports.proofs.Follows.{own-length, after-all, frame, own-after}
+use Rattle.ports.proofs.Follows.{own-length, after-all, own-after, by-own}
 use Rattle.ports.proofs.Fits.{notice-fits}
 
 -- ---- nobody is pushed out
@@ -58,18 +59,11 @@ module _ (q i : ℕ) (iq : isPort q ≡ true) (h : i < 16) where
   own-keeps ws n (setting port k) e spares = set-keeps (own ws q) (own-length ws n q iq) i h (exponentOf k) (isInterval k)
   own-keeps ws n (asking port) e spares = refl
 
-  keeps-by : (ws : List ℕ) (n : length ws ≡ 1764) (c : Call) → Spares ws q i c → (b : Bool) → eqb (portOfCall c) q ≡ b
-      → slotAt (own (after ws c) q) i ≡ slotAt (own ws q) i
-  keeps-by ws n c spares true e =
-      let f = eqb-true _ _ e in
-      ap (λ (l : List ℕ). slotAt l i) (own-after ws n c q iq f) ∙ own-keeps ws n c f spares
-  keeps-by ws n c spares false e =
-      ap (λ (l : List ℕ). slotAt l i) (frame ws n c q iq (λ f. eqb-false _ _ e (sym f)))
-
   slots-keep : (ws : List ℕ) (cs : List Call) → length ws ≡ 1764 → LivesThrough ws q i cs → slotAt (own (run ws cs) q) i ≡ slotAt (own ws q) i
   slots-keep ws [] n lives = refl
   slots-keep ws (c ∷ cs) n lives =
-      slots-keep (after ws c) cs (after-all ws n c) (lives .1) ∙ keeps-by ws n c (lives .0) (eqb (portOfCall c) q) refl
+      slots-keep (after ws c) cs (after-all ws n c) (lives .1)
+      ∙ by-own ws n c (λ l. slotAt l i ≡ slotAt (own ws q) i) q iq (λ e. own-keeps ws n c e (lives .0)) refl
 
   -- NOBODY IS PUSHED OUT: over any calls on any ports, a record keeps its slot and its data until its own sender announces or it expires
   pub nobody-pushed-out : (ws : List ℕ) (cs : List Call) → length ws ≡ 1764 → LivesThrough ws q i cs → slotOf (portAt (run ws cs) q) i ≡ slotOf (portAt ws q) i
@@ -78,7 +72,7 @@ module _ (q i : ℕ) (iq : isPort q ≡ true) (h : i < 16) where
 
 -- ---- the words mean the port that the rules give
 module _ (l : List ℕ) (t : ℕ) (n : length l ≡ 98) where
-  by-means : (x : Admitted) → ((a : kept.Notice) → x ≡ Notice a → Fitting a)
+  pub by-means : (x : Admitted) → ((a : kept.Notice) → x ≡ Notice a → Fitting a)
       → portOf (wordsAfter l t (planBy (portOf l) t x)) ≡ portAfter (portOf l) t (planBy (portOf l) t x)
   by-means (Refused x) fits = refl
   by-means (Notice a) fits = means l t a n (fits a refl)
@@ -143,22 +137,17 @@ own-single l (setting port k) n o single = interval-single l (exponentOf k) (isI
 own-single l (asking port) n o single = single
 
 module _ (q : ℕ) (iq : isPort q ≡ true) where
-  single-by : (ws : List ℕ) (n : length ws ≡ 1764) (c : Call) → OctetCall c → Single (portAt ws q) → (b : Bool) → eqb (portOfCall c) q ≡ b → Single (portAt (after ws c) q)
-  single-by ws n c o single true e =
-      subst (λ (l : List ℕ). Single (portOf l)) (sym (own-after ws n c q iq (eqb-true _ _ e))) (own-single (own ws q) c (own-length ws n q iq) o single)
-  single-by ws n c o single false e =
-      subst (λ (l : List ℕ). Single (portOf l)) (sym (frame ws n c q iq (λ f. eqb-false _ _ e (sym f)))) single
-
   pub single-run : (ws : List ℕ) (cs : List Call) → length ws ≡ 1764 → OctetCalls cs → Single (portAt ws q) → Single (portAt (run ws cs) q)
   single-run ws [] n o single = single
   single-run ws (c ∷ cs) n o single =
-      single-run (after ws c) cs (after-all ws n c) (o .1) (single-by ws n c (o .0) single (eqb (portOfCall c) q) refl)
+      single-run (after ws c) cs (after-all ws n c) (o .1)
+      (by-own ws n c (λ l. Single (portOf l)) q iq (λ e. own-single (own ws q) c (own-length ws n q iq) (o .0) single) single)
 
 -- words of zero hold nobody
-abbrev Zeros : List ℕ → Type 0
+abbrev pub Zeros : List ℕ → Type 0
 Zeros l = (k : ℕ) → getD l k 0 ≡ 0
 
-zeros-tab : (n : ℕ) → Zeros (tab n (λ i. 0))
+pub zeros-tab : (n : ℕ) → Zeros (tab n (λ i. 0))
 unfolding tab
 zeros-tab zero k = refl
 zeros-tab (suc n) zero = refl
@@ -173,7 +162,7 @@ zeros-take (suc n) (x ∷ l) z (suc k) = zeros-take n l (λ j. z (suc j)) k
 zeros-drop : (n : ℕ) (l : List ℕ) → Zeros l → Zeros (drop n l)
 zeros-drop n l z k = getD-drop n l k 0 ∙ z (n + k)
 
-zeros-block : (l : List ℕ) (b n : ℕ) → Zeros l → Zeros (take n (drop b l))
+pub zeros-block : (l : List ℕ) (b n : ℕ) → Zeros l → Zeros (take n (drop b l))
 zeros-block l b n z = zeros-take n (drop b l) (zeros-drop b l z)
 
 and-none : (a b c : Bool) → c ≡ false → (a && (b && c)) ≡ false
@@ -187,16 +176,13 @@ nobody x l z =
     let s = recordOf l .notice .sender in
     and-none (eqb (s .clock) (x .clock)) (eqb (s .port) (x .port)) (not (eqb (recordOf l .receipts) 0)) (rw (z 1))
 
-unlike : {G : Type 0} → false ≡ true → G
-unlike e = absurd (let z : _≡_ {A = ℕ} 0 1 = cc in omega arith)
-
 -- ONE SENDER HAS AT MOST ONE RECORD, in every state that is reached from fresh words
 fresh-single : (q : ℕ) → Single (portAt fresh q)
 fresh-single q x i j hi hj oi oj =
     let l = own fresh q in
     let zeros : Zeros (take 6 (drop (2 + 6 * i) l)) =
     zeros-block l (2 + 6 * i) 6 (zeros-block fresh (98 * (q - 1)) 98 (zeros-tab 1764)) in
-    unlike (sym (nobody x (take 6 (drop (2 + 6 * i) l)) zeros) ∙ ap (isOf x) (slot-is l i hi) ∙ oi)
+    clash (ap (isOf x) (slot-is l i hi) ∙ oi) (nobody x (take 6 (drop (2 + 6 * i) l)) zeros)
 
 pub one-record : (q : ℕ) → isPort q ≡ true → (cs : List Call) → OctetCalls cs → Single (portAt (run fresh cs) q)
 one-record q iq cs o = single-run q iq fresh cs (length-tab 1764 (λ i. 0)) o (fresh-single q)

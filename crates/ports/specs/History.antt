@@ -14,7 +14,7 @@ use Rattle.senders.specs.Port.{slotOf, tab, Live}
 use Rattle.slots.specs.Words.{portOf, wordsAfter}
 use Rattle.ports.specs.declared.intake.Settings.{Settings}
 use Rattle.ports.specs.declared.intake.Admitted.the-variants.{Notice}
-use Rattle.ports.specs.Words.{portAt}
+use Rattle.ports.specs.Words.{portAt, allWords}
 use Rattle.ports.specs.Intake.{admittedOf, planBy, planAt, stateAfter}
 use Rattle.ports.specs.Interval.{isInterval, exponentOf, intervalAfter}
 
@@ -57,7 +57,7 @@ runOwn l (c ∷ cs) = runOwn (ownAfter l c) cs
 
 -- words of zero: a fresh clock
 abbrev pub fresh : List ℕ
-fresh = tab 1764 (λ i. 0)
+fresh = tab allWords (λ i. 0)
 
 -- a call on port q leaves the record in slot i alone: an Announce that is admitted there is another sender's, and
 -- finds the record live

@@ -1,6 +1,10 @@
 pub mod Words
 pub mod Intake
+pub mod Admitting
+pub mod When
 pub mod Interval
 pub mod Asking
 pub mod Places
 pub mod History
+pub mod Staying
+pub mod Accepted

@@ -7,13 +7,13 @@ use Rattle.rank.specs.declared.Candidate.{Candidate}
 use Rattle.senders.specs.declared.Asked.{Asked}
 use Rattle.senders.specs.declared.Asked.the-variants.{Absent, Found}
 use Rattle.senders.specs.Record.{candidateOf}
-use Rattle.slots.specs.Words.{block, recordOf}
+use Rattle.slots.specs.Words.{portWords, block, recordOf}
 use Rattle.slots.specs.Places.{placeIn}
 use Rattle.ports.specs.Words.{own}
 
 -- a place in the port's own words as one in the words of all ports; 0 is none
 abbrev pub placeFrom : ℕ → ℕ → ℕ
-placeFrom port i = pick (eqb i 0) 0 (98 * (port - 1) + i)
+placeFrom port i = pick (eqb i 0) 0 (portWords * (port - 1) + i)
 
 -- the place of a port's best candidate
 unfoldable pub placeOn : List ℕ → ℕ → ℕ → ℕ
@@ -21,7 +21,7 @@ placeOn ws port t = placeFrom port (placeIn (own ws port) t)
 
 -- the port of a place
 abbrev pub portBy : ℕ → ℕ
-portBy at = at / 98 + 1
+portBy at = at / portWords + 1
 
 -- the candidate at a place
 unfoldable pub candidateAt : List ℕ → ℕ → Candidate

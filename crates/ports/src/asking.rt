@@ -4,6 +4,9 @@
 ghost use mathlib.Core.Path.{_≡_};
 ghost use lib.ListN.{length};
 ghost use Rattle.ports.specs.Asking.{candidateOn, bestOn, knownIn, statusOf, lookedAt};
+ghost use Rattle.slots.specs.Words.{portWords};
+ghost use Rattle.ports.specs.Words.{allWords};
+use crate::WORDS;
 use refusal::Refusal;
 use senders::Asked;
 use slots::Seen;
@@ -21,43 +24,43 @@ pub enum Looked {
 }
 
 fn candidate_in(words: &[u64], port: u8, slot: usize, t: u64) -> Asked
-    requires { ⌜ length (now words) ≡ 1764 ⌝ }
+    requires { ⌜ length (now words) ≡ allWords ⌝ }
     ensures { λ r. ⌜ r ≡ candidateOn (now (words .entry)) port slot t ⌝ }
 {
     if !rank::is_port(port) {
         return Asked::Refused(Refusal::Port);
     }
     let b = crate::start(port);
-    slots::candidate(&words[b..b + 98], port, slot, t)
+    slots::candidate(&words[b..b + slots::WORDS], port, slot, t)
 }
 
 // The candidate in a port's slot at `t`. The sixteen slots, in their order, give the port's candidates.
-pub fn candidate(words: &[u64; 1764], port: u8, slot: usize, t: u64) -> Asked
+pub fn candidate(words: &[u64; WORDS], port: u8, slot: usize, t: u64) -> Asked
     ensures { λ r. ⌜ r ≡ candidateOn (now (words .entry)) port slot t ⌝ }
 {
     candidate_in(&words[..], port, slot, t)
 }
 
 fn best_in(words: &[u64], port: u8, t: u64) -> Asked
-    requires { ⌜ length (now words) ≡ 1764 ⌝ }
+    requires { ⌜ length (now words) ≡ allWords ⌝ }
     ensures { λ r. ⌜ r ≡ bestOn (now (words .entry)) port t ⌝ }
 {
     if !rank::is_port(port) {
         return Asked::Refused(Refusal::Port);
     }
     let b = crate::start(port);
-    slots::best(&words[b..b + 98], port, t)
+    slots::best(&words[b..b + slots::WORDS], port, t)
 }
 
 // The best of a port's candidates at `t`.
-pub fn best(words: &[u64; 1764], port: u8, t: u64) -> Asked
+pub fn best(words: &[u64; WORDS], port: u8, t: u64) -> Asked
     ensures { λ r. ⌜ r ≡ bestOn (now (words .entry)) port t ⌝ }
 {
     best_in(&words[..], port, t)
 }
 
-fn known(ws: &[u64]) -> Status
-    requires { ⌜ length (now ws) ≡ 98 ⌝ }
+fn own_status(ws: &[u64]) -> Status
+    requires { ⌜ length (now ws) ≡ portWords ⌝ }
     ensures { λ r. ⌜ r ≡ knownIn (now (ws .entry)) ⌝ }
 {
     Status::Known(
@@ -67,36 +70,36 @@ fn known(ws: &[u64]) -> Status
 }
 
 fn status_in(words: &[u64], port: u8) -> Status
-    requires { ⌜ length (now words) ≡ 1764 ⌝ }
+    requires { ⌜ length (now words) ≡ allWords ⌝ }
     ensures { λ r. ⌜ r ≡ statusOf (now (words .entry)) port ⌝ }
 {
     if !rank::is_port(port) {
         return Status::Refused(Refusal::Port);
     }
     let b = crate::start(port);
-    known(&words[b..b + 98])
+    own_status(&words[b..b + slots::WORDS])
 }
 
 // A port's last accepted time and interval.
-pub fn port_status(words: &[u64; 1764], port: u8) -> Status
+pub fn port_status(words: &[u64; WORDS], port: u8) -> Status
     ensures { λ r. ⌜ r ≡ statusOf (now (words .entry)) port ⌝ }
 {
     status_in(&words[..], port)
 }
 
 fn look_in(words: &[u64], port: u8, slot: usize) -> Looked
-    requires { ⌜ length (now words) ≡ 1764 ⌝ }
+    requires { ⌜ length (now words) ≡ allWords ⌝ }
     ensures { λ r. ⌜ r ≡ lookedAt (now (words .entry)) port slot ⌝ }
 {
     if !rank::is_port(port) {
         return Looked::Refused(Refusal::Port);
     }
     let b = crate::start(port);
-    Looked::Slot(slots::slot(&words[b..b + 98], slot))
+    Looked::Slot(slots::slot(&words[b..b + slots::WORDS], slot))
 }
 
 // The record in a port's slot, if it ever held one.
-pub fn look(words: &[u64; 1764], port: u8, slot: usize) -> Looked
+pub fn look(words: &[u64; WORDS], port: u8, slot: usize) -> Looked
     ensures { λ r. ⌜ r ≡ lookedAt (now (words .entry)) port slot ⌝ }
 {
     look_in(&words[..], port, slot)

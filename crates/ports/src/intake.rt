@@ -5,6 +5,8 @@ ghost use mathlib.Core.Path.{_≡_};
 ghost use lib.ListN.{length};
 ghost use Rattle.senders.specs.Port.{outcomeOf};
 ghost use Rattle.ports.specs.Intake.{noticeOf, judgedOf, admittedOf, planAt, stateAfter};
+ghost use Rattle.ports.specs.Words.{allWords};
+use crate::WORDS;
 use message::announce::Announced;
 use message::announce::Heard;
 use rank::Grandmaster;
@@ -82,7 +84,7 @@ fn admit(port: u8, s: &[u8], set: Settings) -> Admitted
 }
 
 fn take_in(words: &mut [u64], port: u8, t: u64, s: &[u8], set: Settings) -> Outcome
-    requires { ⌜ length (now words) ≡ 1764 ⌝ }
+    requires { ⌜ length (now words) ≡ allWords ⌝ }
     ensures { λ r. ⌜ (r ≡ outcomeOf (planAt set (now (words .entry)) port t (now (s .entry)))) × (now (words .exit) ≡ stateAfter (now (words .entry)) port t (planAt set (now (words .entry)) port t (now (s .entry)))) ⌝ }
 {
     let admitted = admit(port, s, set);
@@ -90,13 +92,13 @@ fn take_in(words: &mut [u64], port: u8, t: u64, s: &[u8], set: Settings) -> Outc
         Admitted::Refused(x) => Outcome::Refused(x),
         Admitted::Notice(a) => {
             let b = crate::start(port);
-            slots::take(&mut words[b..b + 98], t, a)
+            slots::take(&mut words[b..b + slots::WORDS], t, a)
         }
     }
 }
 
 // Takes the Announce in `s` on a port at `t`, or refuses it.
-pub fn take(words: &mut [u64; 1764], port: u8, t: u64, s: &[u8], set: Settings) -> Outcome
+pub fn take(words: &mut [u64; WORDS], port: u8, t: u64, s: &[u8], set: Settings) -> Outcome
     ensures { λ r. ⌜ (r ≡ outcomeOf (planAt set (now (words .entry)) port t (now (s .entry)))) × (now (words .exit) ≡ stateAfter (now (words .entry)) port t (planAt set (now (words .entry)) port t (now (s .entry)))) ⌝ }
 {
     take_in(&mut words[..], port, t, s, set)

@@ -4,6 +4,8 @@ ghost use mathlib.Core.Path.{_≡_};
 ghost use Prim.Native.Nat.{_%_};
 ghost use lib.ListN.{length};
 ghost use Rattle.ports.specs.Interval.{inRange, intervalOf, setBy, afterBy, intervalSet, intervalAfter};
+ghost use Rattle.ports.specs.Words.{allWords};
+use crate::WORDS;
 use refusal::Outcome;
 use refusal::Refusal;
 
@@ -26,7 +28,7 @@ pub fn interval_of(e: u64) -> i8
 }
 
 fn set_in(words: &mut [u64], port: u8, e: u8) -> Outcome
-    requires { ⌜ length (now words) ≡ 1764 ⌝ }
+    requires { ⌜ length (now words) ≡ allWords ⌝ }
     ensures { λ r. ⌜ (r ≡ setBy port (inRange e)) × (now (words .exit) ≡ afterBy (now (words .entry)) port (inRange e) (e % 8)) ⌝ }
 {
     if !rank::is_port(port) {
@@ -36,12 +38,12 @@ fn set_in(words: &mut [u64], port: u8, e: u8) -> Outcome
         return Outcome::Refused(Refusal::Field);
     }
     let b = crate::start(port);
-    slots::set_exponent(&mut words[b..b + 98], (e % 8) as u64);
+    slots::set_exponent(&mut words[b..b + slots::WORDS], (e % 8) as u64);
     Outcome::Done
 }
 
 // Sets a port's interval, or refuses it.
-pub fn set_interval(words: &mut [u64; 1764], port: u8, k: i8) -> Outcome
+pub fn set_interval(words: &mut [u64; WORDS], port: u8, k: i8) -> Outcome
     ensures { λ r. ⌜ (r ≡ intervalSet port k) × (now (words .exit) ≡ intervalAfter (now (words .entry)) port k) ⌝ }
 {
     set_in(&mut words[..], port, octets::bits8(k))

@@ -6,16 +6,21 @@ ghost use mathlib.Core.Path.{_≡_};
 ghost use mathlib.Core.Bool.{true};
 ghost use Prim.Native.Nat.{_+_, _-_, _*_, _≤_};
 ghost use Rattle.rank.specs.Ranked.{isPort};
+ghost use Rattle.slots.specs.Words.{portWords};
+ghost use Rattle.ports.specs.Words.{allWords};
 
 pub mod asking;
 pub mod intake;
 pub mod interval;
 pub mod places;
 
+// The words of all ports.
+pub const WORDS: usize = refusal::PORTS * slots::WORDS;
+
 // Where the words of a port begin.
 fn start(port: u8) -> usize
     requires { ⌜ isPort port ≡ true ⌝ }
-    ensures { λ r. ⌜ (r ≡ 98 * (port - 1)) × (r + 98 ≤ 1764) ⌝ }
+    ensures { λ r. ⌜ (r ≡ portWords * (port - 1)) × (r + portWords ≤ allWords) ⌝ }
 {
-    98 * (port as usize - 1)
+    slots::WORDS * (port as usize - 1)
 }

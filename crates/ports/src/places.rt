@@ -7,26 +7,27 @@ ghost use lib.Dec.{ltb};
 ghost use lib.ListN.{length};
 ghost use Rattle.rank.specs.Order.{earlierOf};
 ghost use Rattle.rank.specs.Ranked.{isPort};
-ghost use Rattle.ports.specs.Words.{portAt};
+ghost use Rattle.ports.specs.Words.{portAt, allWords};
 ghost use Rattle.ports.specs.Places.{placeOn, candidateAt};
+ghost use Rattle.slots.specs.Words.{portWords};
 use rank::Candidate;
 
 // Whether `t` lies before the last accepted time of a port.
 pub fn is_late(words: &[u64], port: u8, t: u64) -> bool
-    requires { ⌜ (length (now words) ≡ 1764) × (isPort port ≡ true) ⌝ }
+    requires { ⌜ (length (now words) ≡ allWords) × (isPort port ≡ true) ⌝ }
     ensures { λ r. ⌜ r ≡ ltb t (portAt (now (words .entry)) port .last) ⌝ }
 {
     let b = crate::start(port);
-    t < slots::last(&words[b..b + 98])
+    t < slots::last(&words[b..b + slots::WORDS])
 }
 
 // The place of a port's best candidate at `t`, or 0 where the port has none.
 pub fn place(words: &[u64], port: u8, t: u64) -> usize
-    requires { ⌜ (length (now words) ≡ 1764) × (isPort port ≡ true) ⌝ }
+    requires { ⌜ (length (now words) ≡ allWords) × (isPort port ≡ true) ⌝ }
     ensures { λ r. ⌜ r ≡ placeOn (now (words .entry)) port t ⌝ }
 {
     let b = crate::start(port);
-    let i = slots::place(&words[b..b + 98], t);
+    let i = slots::place(&words[b..b + slots::WORDS], t);
     if i == 0 {
         return 0;
     }
@@ -35,16 +36,16 @@ pub fn place(words: &[u64], port: u8, t: u64) -> usize
 
 // The candidate at a place.
 pub fn candidate(words: &[u64], at: usize) -> Candidate
-    requires { ⌜ (length (now words) ≡ 1764) × (at + 6 ≤ 1764) ⌝ }
+    requires { ⌜ (length (now words) ≡ allWords) × (at + 6 ≤ allWords) ⌝ }
     ensures { λ r. ⌜ r ≡ candidateAt (now (words .entry)) at ⌝ }
 {
     let r = slots::read(&words[at..at + 6]);
-    senders::candidate(r, (at / 98 + 1) as u8)
+    senders::candidate(r, (at / slots::WORDS + 1) as u8)
 }
 
 // Whether the candidate at `a` stands before that at `b`, which is one of a port with a lower number.
 pub fn is_before(words: &[u64], a: usize, b: usize) -> bool
-    requires { ⌜ (length (now words) ≡ 1764) × (a + 6 ≤ 1764) × (b + 6 ≤ 1764) × (b / 98 < a / 98) ⌝ }
+    requires { ⌜ (length (now words) ≡ allWords) × (a + 6 ≤ allWords) × (b + 6 ≤ allWords) × (b / portWords < a / portWords) ⌝ }
     ensures { λ r. ⌜ r ≡ earlierOf (candidateAt (now (words .entry)) a) (candidateAt (now (words .entry)) b) ⌝ }
 {
     slots::comes_before(&words[a..a + 6], &words[b..b + 6])

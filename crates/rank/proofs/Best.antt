@@ -10,6 +10,8 @@ use lib.Dec.{eqb}
 use lib.ListN.{length, take, getD}
 use lib.Seq.{take-length}
 use borrow.Author.Tests.{eqb-true, eqb-false, eq-eqb, ne-eqb}
+pub use Rattle.laws.proofs.Bools.{cases}
+use Rattle.laws.proofs.Bools.{clash}
 use Rattle.refusal.specs.Choice.{pick}
 use Rattle.rank.specs.Best.{better, best, bests, put, sort, sink, insert}
 
@@ -19,15 +21,8 @@ pub record Strict {A : Type 0} (lt : A → A → Bool) : Type 0 where
   pub trans : (x y z : A) → lt x y ≡ true → lt y z ≡ true → lt x z ≡ true
   pub tri : (x y : A) → lt x y ≡ false → lt y x ≡ false → x ≡ y
 
-pub cases : {G : Type 0} (b : Bool) → (b ≡ true → G) → (b ≡ false → G) → G
-cases true f g = f refl
-cases false f g = g refl
-
 pub either : {A B G : Type 0} → A ⊎ B → (A → G) → (B → G) → G
 either w f g = ⊎-elim f g w
-
-clash : {G : Type 0} {b : Bool} → b ≡ true → b ≡ false → G
-clash {G} {b} p q = absurd (let z : _≡_ {A = ℕ} 0 1 = cc in omega arith)
 
 eqb-sym : (a b : ℕ) → eqb a b ≡ false → eqb b a ≡ false
 eqb-sym a b e = ne-eqb b a (λ q. eqb-false a b e (sym q))

@@ -14,7 +14,7 @@ use Rattle.rank.specs.declared.Ranked.{Ranked}
 use Rattle.rank.specs.declared.Ranking.{Ranking}
 use Rattle.rank.specs.Order.{earlierOf}
 use Rattle.rank.specs.Best.{sort}
-use Rattle.rank.specs.Ranked.{isPort, portOf, allValid, rankOf, pack, unpack, isRanked}
+use Rattle.rank.specs.Ranked.{isPort, receiverOf, allValid, rankOf, pack, unpack, isRanked}
 use Rattle.rank.specs.Calls.{doneOf, rankingOf, mergeOf}
 use Rattle.rank.proofs.Best.{cases, bests-same, rank-merge, rank-swap, rank-twice}
 use Rattle.rank.proofs.Order.{ordered}
@@ -26,7 +26,7 @@ pub record Same (s t : List Candidate) : Type 0 where
   pub back : (c : Candidate) → List·Memᴰ c t → List·Memᴰ c s
 
 pub any-order : (s t : List Candidate) → Same s t → rankOf s ≡ rankOf t
-any-order s t h = ap (λ (l : List Candidate). take 4 (sort earlierOf portOf l)) (bests-same earlierOf portOf ordered 18 s t (h .forth) (h .back))
+any-order s t h = ap (λ (l : List Candidate). take 4 (sort earlierOf receiverOf l)) (bests-same earlierOf receiverOf ordered 18 s t (h .forth) (h .back))
 
 valid-in : (s : List Candidate) (c : Candidate) → allValid s ≡ true → List·Memᴰ c s → isPort (c .port) ≡ true
 valid-in [] c h m = absurd (elim m [ ])
@@ -78,12 +78,12 @@ module _ (s t : List Candidate) (vs : AllValid s) (vt : AllValid t) where
   rank-of-ranks : rankOf (rankOf s ++ rankOf t) ≡ rankOf (s ++ t)
   rank-of-ranks =
       rw (← defined s vs, ← defined t vt, ← defined (R s ++ R t) (all-append _ (R s) (R t) (valid-rank s vs) (valid-rank t vt)), ← defined (s ++ t) (all-append _ s t vs vt))
-      (rank-merge earlierOf portOf ordered 4 s t)
+      (rank-merge earlierOf receiverOf ordered 4 s t)
 
   rank-comm : rankOf (s ++ t) ≡ rankOf (t ++ s)
   rank-comm =
       rw (← defined (s ++ t) (all-append _ s t vs vt), ← defined (t ++ s) (all-append _ t s vt vs))
-      (rank-swap earlierOf portOf ordered 4 s t)
+      (rank-swap earlierOf receiverOf ordered 4 s t)
 
   -- what merging makes of two collections' ranked lists
   pub merge-of-ranks : mergeOf (pack (rankOf s)) (pack (rankOf t)) ≡ doneOf (rankOf (s ++ t))
@@ -112,7 +112,7 @@ merge-order a b =
     (λ ha. cases (isRanked b) (λ hb. rw (ha, hb)) (λ hb. rw (ha, hb)))
 
 rank-idem : (s : List Candidate) → AllValid s → rankOf (s ++ s) ≡ rankOf s
-rank-idem s v = rw (← defined (s ++ s) (all-append _ s s v v), ← defined s v) (rank-twice earlierOf portOf ordered 4 s)
+rank-idem s v = rw (← defined (s ++ s) (all-append _ s s v v), ← defined s v) (rank-twice earlierOf receiverOf ordered 4 s)
 
 -- a ranked list merged with itself, or with the empty one, is that list
 pub merge-twice : (a : Ranked) → isRanked a ≡ true → mergeOf a a ≡ doneOf (unpack a)

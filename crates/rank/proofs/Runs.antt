@@ -15,7 +15,7 @@ use Rattle.rank.specs.declared.Candidate.{Candidate}
 use Rattle.rank.specs.declared.Ranked.{Ranked}
 use Rattle.rank.specs.declared.Ranking.{Ranking}
 use Rattle.rank.specs.Order.{earlierOf}
-use Rattle.rank.specs.Ranked.{isPort, portOf, allValid, blankOf}
+use Rattle.rank.specs.Ranked.{isPort, receiverOf, allValid, blankOf}
 use Rattle.rank.specs.Calls.{refusedOf, doneOf, rankingOf, startOf, stepOf, turnsOf}
 use Rattle.rank.proofs.Best.{cases, rank-middle}
 use Rattle.rank.proofs.Order.{ordered}
@@ -40,7 +40,7 @@ scan-rank (y ∷ ys) s =
     simp e
     (ap (λ (r : Ranked). scan (record { outcome = Done; list = r }) ys) (insert-rank y s)
     ∙ scan-rank ys (y ∷ s)
-    ∙ ap (λ (l : List Candidate). pick (allValid ys) (doneOf l) (refusedOf Port)) (rank-middle earlierOf portOf ordered 4 ys y s)))
+    ∙ ap (λ (l : List Candidate). pick (allValid ys) (doneOf l) (refusedOf Port)) (rank-middle earlierOf receiverOf ordered 4 ys y s)))
     (λ e. simp e (stuck Port ys))
 
 pub scan-all : (l : List Candidate) → scan (startOf (length l)) (take (turnsOf (length l)) l) ≡ rankingOf l

@@ -14,7 +14,7 @@ use Rattle.rank.specs.declared.Candidate.{Candidate}
 use Rattle.rank.specs.declared.Ranked.{Ranked}
 use Rattle.rank.specs.Order.{earlierOf}
 use Rattle.rank.specs.Best.{sink}
-use Rattle.rank.specs.Ranked.{portOf, laid, unpack, sinkOf}
+use Rattle.rank.specs.Ranked.{receiverOf, laid, unpack, sinkOf}
 use Rattle.rank.proofs.Best.{cases}
 
 -- at a place with y on it: which of the two stays, and which goes on
@@ -25,8 +25,8 @@ abbrev pub goes : Candidate → Candidate → Candidate
 goes x y = pick (earlierOf x y) y x
 
 sink-at : (p : ℕ) (x y : Candidate) (ys : List Candidate)
-    → sink earlierOf portOf p x (y ∷ ys)
-    ≡ stays x y ∷ pick (eqb (y .port) p) ys (sink earlierOf portOf p (goes x y) ys)
+    → sink earlierOf receiverOf p x (y ∷ ys)
+    ≡ stays x y ∷ pick (eqb (y .port) p) ys (sink earlierOf receiverOf p (goes x y) ys)
 sink-at p x y ys = cases (earlierOf x y) (λ e. simp e) (λ e. simp e)
 
 -- the invariant: i of the n used slots are gone through, x goes on, and whole is what comes of it
@@ -35,7 +35,7 @@ pub record Down (p n : ℕ) (whole first slots : List Candidate) (x : Candidate)
   pub four : n ≤ 4
   pub size : length slots ≡ 4
   pub past : drop n slots ≡ drop n first
-  pub rest : take i slots ++ sink earlierOf portOf p x (drop i (take n slots)) ≡ whole
+  pub rest : take i slots ++ sink earlierOf receiverOf p x (drop i (take n slots)) ≡ whole
 
 -- the list W in the first slots, as `laid` has it
 packed : (n : ℕ) (l first slots : List Candidate) → length l ≡ n → n ≤ 4 → slots ≡ l ++ drop n first
@@ -58,16 +58,16 @@ module _ (p n : ℕ) (whole first slots : List Candidate) (x : Candidate) (i : �
     later : drop (suc i) (take n next) ≡ drop (suc i) (take n slots)
     later = rw (take-set-lt n slots i (stays x y)) (drop-set-lt (suc i) (take n slots) i (stays x y) (omega arith))
 
-    whole-at : take (suc i) next ++ pick (eqb (y .port) p) (drop (suc i) (take n next)) (sink earlierOf portOf p (goes x y) (drop (suc i) (take n next))) ≡ whole
+    whole-at : take (suc i) next ++ pick (eqb (y .port) p) (drop (suc i) (take n next)) (sink earlierOf receiverOf p (goes x y) (drop (suc i) (take n next))) ≡ whole
     whole-at =
         let dl : drop i (take n slots) ≡ y ∷ drop (suc i) (take n slots) =
         drop-cons (take n slots) i d here-in ∙ ap (λ (z : Candidate). z ∷ drop (suc i) (take n slots)) (getD-take n slots i d h) in
         let l = drop (suc i) (take n slots) in
-        let tail = pick (eqb (y .port) p) l (sink earlierOf portOf p (goes x y) l) in
+        let tail = pick (eqb (y .port) p) l (sink earlierOf receiverOf p (goes x y) l) in
         rw later
         (ap (λ (k : List Candidate). k ++ tail) (take-suc-set slots i (stays x y) (omega (arith, inv .size, inv .four)))
         ∙ append-snoc (take i slots) (stays x y) tail
-        ∙ ap (λ (k : List Candidate). take i slots ++ k) (sym (sink-at p x y l) ∙ ap (sink earlierOf portOf p x) (sym dl))
+        ∙ ap (λ (k : List Candidate). take i slots ++ k) (sym (sink-at p x y l) ∙ ap (sink earlierOf receiverOf p x) (sym dl))
         ∙ inv .rest)
 
     past-at : drop n next ≡ drop n first
@@ -132,7 +132,7 @@ take-min k l e =
     (λ t. let h = leb-false k 4 t in take-all (min k 4) l (omega arith) ∙ sym (take-all k l (omega arith)))
 
 pub to-spec : (r : Ranked) (c : Candidate) (n : ℕ) → length (r .slots) ≡ 4 → n ≡ min (r .len) 4
-    → laid (take 4 (sink earlierOf portOf (c .port) c (take n (r .slots)))) (r .slots) ≡ sinkOf r c
+    → laid (take 4 (sink earlierOf receiverOf (c .port) c (take n (r .slots)))) (r .slots) ≡ sinkOf r c
 to-spec r c n e h = rw (h, take-min (r .len) (r .slots) e)
 
 -- the used slots from i on: one and the rest, or none

@@ -13,7 +13,7 @@ use Rattle.rank.specs.declared.Candidate.{Candidate}
 use Rattle.rank.specs.declared.Ranked.{Ranked}
 use Rattle.rank.specs.declared.Ranking.{Ranking}
 use Rattle.rank.specs.Order.{earlierOf}
-use Rattle.rank.specs.Ranked.{rankOf, portOf, pack, isRanked}
+use Rattle.rank.specs.Ranked.{rankOf, receiverOf, pack, isRanked}
 use Rattle.rank.specs.Calls.{refusedOf, doneOf, rankingOf, mergeOf}
 use Rattle.rank.proofs.merge.Reads as merge
 use Rattle.rank.proofs.merge.Kinds as merge-kinds
@@ -34,11 +34,11 @@ pub a-c-b : rankOf (cand 1 7 5 1 1 ∷ cand 9 7 1 1 2 ∷ cand 5 8 0 1 3 ∷ [])
 a-c-b = refl
 
 -- "Cutting to four before keeping one per port": four of port 1 leave room for the others
-pub one-per-port : map portOf (rankOf (cand 1 1 0 1 1 ∷ cand 2 1 0 1 1 ∷ cand 3 1 0 1 1 ∷ cand 4 1 0 1 1 ∷ cand 5 1 0 1 18 ∷ cand 6 1 0 1 2 ∷ [])) ≡ 1 ∷ 18 ∷ 2 ∷ []
+pub one-per-port : map receiverOf (rankOf (cand 1 1 0 1 1 ∷ cand 2 1 0 1 1 ∷ cand 3 1 0 1 1 ∷ cand 4 1 0 1 1 ∷ cand 5 1 0 1 18 ∷ cand 6 1 0 1 2 ∷ [])) ≡ 1 ∷ 18 ∷ 2 ∷ []
 one-per-port = refl
 
 -- cut after four: the fifth port is left out
-pub four-kept : map portOf (rankOf (cand 5 1 0 1 5 ∷ cand 4 1 0 1 4 ∷ cand 3 1 0 1 3 ∷ cand 2 1 0 1 2 ∷ cand 1 1 0 1 1 ∷ [])) ≡ 1 ∷ 2 ∷ 3 ∷ 4 ∷ []
+pub four-kept : map receiverOf (rankOf (cand 5 1 0 1 5 ∷ cand 4 1 0 1 4 ∷ cand 3 1 0 1 3 ∷ cand 2 1 0 1 2 ∷ cand 1 1 0 1 1 ∷ [])) ≡ 1 ∷ 2 ∷ 3 ∷ 4 ∷ []
 four-kept = refl
 
 -- a sender's port is a number and no row of octets in the machine's order: 1 comes before 256

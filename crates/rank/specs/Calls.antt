@@ -35,6 +35,8 @@ mergeOf a b =
     refuse (not (isRanked a && isRanked b)) (refusedOf Unranked)
     (doneOf (rankOf (unpack a ++ unpack b)))
 
+-- ---- WHAT ONLY THE CODE NEEDS: steps on the way to the answers above, and no rule of 01
+
 -- A run, one candidate at a time: the start, one candidate more, and how many are looked at.
 abbrev pub startOf : ℕ → Ranking
 startOf n = refuse (ltb 288 n) (refusedOf Many) (doneOf [])

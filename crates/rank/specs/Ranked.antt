@@ -5,19 +5,17 @@ use mathlib.Core.List.{List, [], _∷_, _++_}
 use mathlib.Core.Bool.{Bool, true, false, not, _&&_, _||_}
 use lib.Dec.{eqb, leb}
 use lib.ListN.{length, take, drop, getD}
+pub use Rattle.refusal.specs.Limits.{isPort}
+use Rattle.refusal.specs.Limits.{portCount}
 use Rattle.refusal.specs.Choice.{pick}
 use Rattle.rank.specs.declared.Candidate.{Candidate}
 use Rattle.rank.specs.declared.Ranked.{Ranked}
 use Rattle.rank.specs.Order.{earlierOf}
 use Rattle.rank.specs.Best.{bests, sort, insert}
 
--- "port outside 1 to 18"
-abbrev pub isPort : ℕ → Bool
-isPort p = leb 1 p && leb p 18
-
 -- "the best candidate of each port": its receiver port
-abbrev pub portOf : Candidate → ℕ
-portOf c = c .port
+abbrev pub receiverOf : Candidate → ℕ
+receiverOf c = c .port
 
 -- "A candidate, valid when its port is 1 to 18"
 abbrev pub allValid : List Candidate → Bool
@@ -26,7 +24,7 @@ allValid (x ∷ xs) = isPort (x .port) && allValid xs
 
 -- "A ranked list holds the best candidate of each port in a collection of valid candidates, in rank order, cut after four."
 abbrev pub rankOf : List Candidate → List Candidate
-rankOf s = take 4 (sort earlierOf portOf (bests earlierOf portOf 18 s))
+rankOf s = take 4 (sort earlierOf receiverOf (bests earlierOf receiverOf portCount s))
 
 -- A list lies in the first slots; those past it stay as they were.
 abbrev pub laid : List Candidate → List Candidate → Ranked
@@ -50,21 +48,6 @@ pack l = laid l (blankOf ∷ blankOf ∷ blankOf ∷ blankOf ∷ [])
 -- the list in the slots
 abbrev pub unpack : Ranked → List Candidate
 unpack r = take (r .len) (r .slots)
-
--- one candidate more: it goes down the list, unless four are there and it does not stand before the last
-abbrev pub leftOut : Ranked → Candidate → Bool
-leftOut r c = eqb (r .len) 4 && not (earlierOf c (getD (r .slots) 3 blankOf))
-
-abbrev pub sinkOf : Ranked → Candidate → Ranked
-sinkOf r c = laid (insert earlierOf portOf 4 c (unpack r)) (r .slots)
-
-abbrev pub insertOf : Ranked → Candidate → Ranked
-insertOf r c = pick (leftOut r c) r (sinkOf r c)
-
--- each of a list in turn
-abbrev pub insertAll : Ranked → List Candidate → Ranked
-insertAll r [] = r
-insertAll r (y ∷ ys) = insertAll (insertOf r y) ys
 
 -- a candidate of port p is in the list
 abbrev pub holdsOf : ℕ → List Candidate → Bool
@@ -90,3 +73,20 @@ inRank (x ∷ xs) = standsOf (x ∷ xs) && inRank xs
 -- to 18, and rises strictly in rank order
 abbrev pub isRanked : Ranked → Bool
 isRanked r = leb (r .len) 4 && inRank (unpack r)
+
+-- ---- WHAT ONLY THE CODE NEEDS: steps on the way to the answers above, and no rule of 01
+
+-- one candidate more: it goes down the list, unless four are there and it does not stand before the last
+abbrev pub leftOut : Ranked → Candidate → Bool
+leftOut r c = eqb (r .len) 4 && not (earlierOf c (getD (r .slots) 3 blankOf))
+
+abbrev pub sinkOf : Ranked → Candidate → Ranked
+sinkOf r c = laid (insert earlierOf receiverOf 4 c (unpack r)) (r .slots)
+
+abbrev pub insertOf : Ranked → Candidate → Ranked
+insertOf r c = pick (leftOut r c) r (sinkOf r c)
+
+-- each of a list in turn
+abbrev pub insertAll : Ranked → List Candidate → Ranked
+insertAll r [] = r
+insertAll r (y ∷ ys) = insertAll (insertOf r y) ys

@@ -14,9 +14,6 @@ ghost use Rattle.rank.specs.Calls.{refusedOf, mergeOf, startOf, turnsOf,
 use refusal::Outcome;
 use refusal::Refusal;
 
-// The ports of the clock are numbered from 1 to this.
-const PORTS: u8 = 18;
-
 // A ranked list is cut after so many.
 const PLACES: usize = 4;
 
@@ -119,7 +116,7 @@ pub fn earlier(a: Candidate, b: Candidate) -> bool
 pub fn is_port(p: u8) -> bool
     ensures { λ r. ⌜ r ≡ isPort p ⌝ }
 {
-    (1 <= p) & (p <= PORTS)
+    (1 <= p) & (p <= refusal::PORTS as u8)
 }
 
 // A ranked list: the first `len` of the slots. The slots past them say nothing.
@@ -206,7 +203,7 @@ fn sink(r: Ranked, c: Candidate) -> Ranked
 }
 
 // The ranked list with one candidate more.
-pub fn insert(r: Ranked, c: Candidate) -> Ranked
+fn insert(r: Ranked, c: Candidate) -> Ranked
     ensures { λ q. ⌜ q ≡ insertOf r c ⌝ }
 {
     if left_out(r, c) {
@@ -327,7 +324,7 @@ pub fn merge(a: Ranked, b: Ranked) -> Ranking
 }
 
 // Where the ranking of a run of `n` candidates starts.
-pub fn start(n: usize) -> Ranking
+fn start(n: usize) -> Ranking
     ensures { λ r. ⌜ r ≡ startOf n ⌝ }
 {
     if MOST < n {
@@ -340,7 +337,7 @@ pub fn start(n: usize) -> Ranking
 }
 
 // One candidate of a run more: what is refused stays refused. A list that leaves the candidate out is not copied.
-pub fn step(s: Ranking, c: Candidate) -> Ranking
+fn step(s: Ranking, c: Candidate) -> Ranking
     ensures { λ r. ⌜ r ≡ stepOf s c ⌝ }
 {
     let outcome = s.outcome;

@@ -1,8 +1,22 @@
--- Laws of `refuse`: a check that was passed, and what a list of checks gives.
-use mathlib.Core.Path.{_≡_, refl}
-use mathlib.Core.Bool.{Bool, true, false}
+-- Laws of `pick` and `refuse`: a check that was passed, and what a list of checks gives.
+use Prim.Native.Nat.{ℕ}
+use mathlib.Core.Path.{_≡_, _∙_, refl, sym}
+use mathlib.Core.Bool.{Bool, true, false, not}
 use mathlib.Core.Logic.{_⊎_, inl, inr}
-use Rattle.refusal.specs.Choice.{refuse}
+use native.Mathlib.Omega.{arith}
+use borrow.Author.Tests.{not-true, not-false}
+use Rattle.refusal.specs.declared.Refusal.{Refusal}
+use Rattle.refusal.specs.declared.Outcome.the-variants.{Done, Refused}
+use Rattle.refusal.specs.Choice.{pick, refuse}
+
+-- what is refused is not done
+pub no-refusal : (x : Refusal) → Refused x ≡ Done → ⊥
+no-refusal x e = let z : _≡_ {A = ℕ} 0 1 = cc in omega arith
+
+-- a choice between a thing and itself
+pub either : {A : Type 0} (b : Bool) (x : A) → pick b x x ≡ x
+either true x = refl
+either false x = refl
 
 module _ {A : Type 0} (x rest y : A) where
   -- the checks give y: this one refuses with it, or it is passed and those below give it
@@ -25,3 +39,13 @@ module _ {A : Type 0} (x rest : A) where
   pub goes-on : (t : Bool) → t ≡ false → refuse t x rest ≡ rest
   unfolding refuse
   goes-on t e = rw e
+
+-- a check that was looked at as b: it refuses, or what follows it answers
+module _ {A : Type 0} (t b : Bool) (e : b ≡ t) (x y : A) where
+  pub is-refused : not b ≡ true → x ≡ refuse (not t) x y
+  unfolding refuse
+  is-refused h = rw (sym e ∙ not-true _ h)
+
+  pub is-passed : {r : A} → not b ≡ false → r ≡ y → r ≡ refuse (not t) x y
+  unfolding refuse
+  is-passed h p = rw (sym e ∙ not-false _ h) p

@@ -3,6 +3,12 @@
 ghost use mathlib.Core.Path.{_≡_};
 ghost use Rattle.refusal.specs.Refusal.{numberOf, codeOf};
 
+// The ports of the clock are numbered from 1 to this.
+pub const PORTS: usize = 18;
+
+// The nanoseconds of a second.
+pub const SECOND_NANOS: u32 = 1_000_000_000;
+
 // The table's eighteen rows, by the names it gives them.
 pub enum Refusal {
     Short,

@@ -5,7 +5,6 @@ use mathlib.Core.Path.{_≡_, refl}
 use mathlib.Core.List.{List, [], _∷_}
 use lib.IntN.{negsuc}
 use Rattle.refusal.specs.Choice.{refuse}
-use Rattle.refusal.specs.declared.Refusal.the-variants.{Field, Room}
 use Rattle.octets.specs.Be.{be}
 use Rattle.tlv.specs.Walk.{nextOf, walkBy, walk}
 use Rattle.tlv.specs.Form.{HasForm, dataOctets, numbered, misfitAt}
@@ -14,8 +13,8 @@ use Rattle.message.specs.Fields.{fixedSize}
 use Rattle.message.specs.declared.fields.Body.the-variants as body
 use Rattle.message.specs.declared.fields.Message.{Message}
 use Rattle.layout.specs.Layout.{identityOctets, stampOctets, leadOctets, closeOctets, messageOctets}
-use Rattle.writer.specs.Writing.{stampFits, writeCheck, writeOf, bufferOf}
-use Rattle.writer.specs.declared.writing.Written.the-variants.{Octets, Refused}
+use Rattle.writer.specs.Writing.{stampFits, writeCheck, writeOf, writtenCode, bufferOf}
+use Rattle.writer.specs.declared.writing.Written.the-variants.{Octets}
 
 -- a two-step Sync in domain 1 with a correction of -1
 abbrev sync : ℕ → ℕ → ℕ → Message
@@ -50,24 +49,24 @@ pub taken-at-the-limits : writeOf 0xABCD (sync 15 281474976710655 999999999) [] 
 unfolding writeOf writeCheck refuse tailCheck walk walkBy fixedSize stampFits
 taken-at-the-limits = refl
 
-pub transport-of-16 : writeOf 0xABCD (sync 16 0 0) [] (buffer 44) ≡ Refused Field
+pub transport-of-16 : writtenCode (writeOf 0xABCD (sync 16 0 0) [] (buffer 44)) ≡ 18
 unfolding writeOf writeCheck refuse
 transport-of-16 = refl
 
-pub seconds-of-49-bits : writeOf 0xABCD (sync 0 281474976710656 0) [] (buffer 44) ≡ Refused Field
+pub seconds-of-49-bits : writtenCode (writeOf 0xABCD (sync 0 281474976710656 0) [] (buffer 44)) ≡ 18
 unfolding writeOf writeCheck refuse stampFits
 seconds-of-49-bits = refl
 
-pub nanoseconds-of-a-second : writeOf 0xABCD (sync 0 0 1000000000) [] (buffer 44) ≡ Refused Field
+pub nanoseconds-of-a-second : writtenCode (writeOf 0xABCD (sync 0 0 1000000000) [] (buffer 44)) ≡ 18
 unfolding writeOf writeCheck refuse stampFits
 nanoseconds-of-a-second = refl
 
-pub tail-of-one-octet : writeOf 0xABCD (sync 0 0 0) (0 ∷ []) (buffer 45) ≡ Refused Field
+pub tail-of-one-octet : writtenCode (writeOf 0xABCD (sync 0 0 0) (0 ∷ []) (buffer 45)) ≡ 18
 unfolding writeOf writeCheck refuse tailCheck walk walkBy nextOf be fixedSize stampFits
 tail-of-one-octet = refl
 
 -- a SLAVE_PRESENT with two octets of data
-pub slave-present-with-data : writeOf 0xABCD (sync 0 0 0) (0 ∷ 3 ∷ 0 ∷ 10 ∷ 0x08 ∷ 0 ∷ 0x30 ∷ 0xAB ∷ 0xCD ∷ 1 ∷ 0x10 ∷ 0 ∷ 0 ∷ 0 ∷ []) (buffer 58) ≡ Refused Field
+pub slave-present-with-data : writtenCode (writeOf 0xABCD (sync 0 0 0) (0 ∷ 3 ∷ 0 ∷ 10 ∷ 0x08 ∷ 0 ∷ 0x30 ∷ 0xAB ∷ 0xCD ∷ 1 ∷ 0x10 ∷ 0 ∷ 0 ∷ 0 ∷ []) (buffer 58)) ≡ 18
 unfolding writeOf writeCheck refuse tailCheck walk walkBy nextOf be fixedSize stampFits misfitAt numbered HasForm dataOctets
 slave-present-with-data = refl
 
@@ -76,11 +75,11 @@ pub another-magic : writeOf 0xDEAD (sync 0 0 0) (0 ∷ 3 ∷ 0 ∷ 10 ∷ 0x08 �
 unfolding writeOf writeCheck refuse tailCheck walk walkBy nextOf be fixedSize stampFits misfitAt numbered HasForm
 another-magic = refl
 
-pub one-octet-short : writeOf 0xABCD (sync 0 0 0) [] (buffer 43) ≡ Refused Room
+pub one-octet-short : writtenCode (writeOf 0xABCD (sync 0 0 0) [] (buffer 43)) ≡ 16
 unfolding writeOf writeCheck refuse tailCheck walk walkBy fixedSize stampFits
 one-octet-short = refl
 
 -- 18 comes before 16
-pub field-before-room : writeOf 0xABCD (sync 16 0 0) [] [] ≡ Refused Field
+pub field-before-room : writtenCode (writeOf 0xABCD (sync 16 0 0) [] []) ≡ 18
 unfolding writeOf writeCheck refuse
 field-before-room = refl

@@ -3,18 +3,20 @@
 use Prim.Native.Nat.{ℕ, _+_, _%_, _^_, _<_, _≤_}
 use mathlib.Core.Path.{_≡_, refl, ap, _∙_}
 use mathlib.Core.List.{List, []}
-use mathlib.Core.Bool.{true, false, not}
+use mathlib.Core.Bool.{Bool, true, false, not}
 use native.Mathlib.Omega.{arith}
 use borrow.Author.Tests.{lt-ltb, le-ltb}
 use lib.Dec.{ltb}
 use lib.ListN.{length, drop, getD}
 use Rattle.refusal.specs.Choice.{refuse}
+use Rattle.refusal.specs.Refusal.{codeOf}
 use Rattle.refusal.proofs.Choice.{goes-on}
 use Rattle.refusal.specs.declared.Refusal.the-variants.{Field, Room}
 use Rattle.refusal.specs.declared.Outcome.the-variants.{Done, Refused}
 use Rattle.octets.specs.Be.{be, octetsOf}
 use Rattle.octets.proofs.Laws.{be-octets}
 use Rattle.tlv.specs.Form.{numberAt, dataOctets, isMisfit, isLink}
+use Rattle.tlv.specs.Numbers.{ANN-SUFIX}
 use Rattle.tlv.specs.Faults.{tailCheck}
 use Rattle.tlv.specs.Wr.{flagsAt, suffixIn, linkMessageAt, linkIn}
 use Rattle.tlv.specs.declared.form.Numbered.the-variants.{Number}
@@ -32,14 +34,14 @@ use Rattle.message.specs.declared.fields.Announce.{Announce}
 use Rattle.message.specs.declared.fields.Body.the-variants as body
 use Rattle.message.specs.declared.fields.Message.{Message}
 use Rattle.layout.specs.Layout.{sizeOf}
-use Rattle.writer.specs.Writing.{writeCheck, writeOf, bufferOf}
+use Rattle.writer.specs.Writing.{writeCheck, writeOf, writtenCode, bufferOf}
 use Rattle.writer.specs.declared.writing.Written.the-variants as written
 use Rattle.writer.proofs.Allowed.{allowed}
 use Rattle.wr_tlvs.specs.Built.{wrOctets, suffixOctets, linkNumber, linkSize, linkData, linkOctets, signaling}
 use Rattle.wr_tlvs.proofs.Laws.{link-count}
-use Rattle.roundtrip.specs.Range.{MessageRange, LinkRange}
+use Rattle.roundtrip.specs.Range.{LinkRange}
 use Rattle.roundtrip.proofs.Written.{written-type, written-tail}
-use Rattle.roundtrip.proofs.ReadBack.{accepted-back, gave}
+use Rattle.roundtrip.proofs.ReadBack.{write-code, accepted-back, gave}
 use Rattle.roundtrip.proofs.OneTlv.{one-number, one-sound, one-long, suffix-first, link-first}
 
 abbrev pub announcing : Header → Announce → Message
@@ -49,7 +51,7 @@ module _ (magic : ℕ) (hm : magic < 256 ^ 2) where
   -- the suffix passes the checks
   pub suffix-sound : (n : ℕ) → tailCheck magic (suffixOctets magic n) ≡ Done
   unfolding dataOctets
-  suffix-sound n = one-sound magic 0x2000 2 (octetsOf 2 (n % 16) []) hm (omega arith) refl refl (omega arith) refl
+  suffix-sound n = one-sound magic ANN-SUFIX 2 (octetsOf 2 (n % 16) []) hm (omega arith) refl refl (omega arith) refl
 
   flags-back : (n : ℕ) → flagsAt (suffixOctets magic n) 0 ≡ n % 16
   unfolding wrOctets be
@@ -60,8 +62,8 @@ module _ (magic : ℕ) (hm : magic < 256 ^ 2) where
   unfolding suffixIn
   suffix-found n =
       let c = octetsOf 2 (n % 16) [] in
-      let p = suffix-first magic 0x2000 2 c hm (omega arith) refl refl (omega arith) refl in
-      let l = one-long magic 0x2000 2 c hm (omega arith) refl refl (omega arith) in
+      let p = suffix-first magic ANN-SUFIX 2 c hm (omega arith) refl refl (omega arith) refl in
+      let l = one-long magic ANN-SUFIX 2 c hm (omega arith) refl refl (omega arith) in
       rw (p, lt-ltb 0 (length (suffixOctets magic n)) l) (ap suffix.Flags (flags-back n))
 
   -- what a link message's TLV holds
@@ -135,40 +137,54 @@ module _ (magic : ℕ) (hm : magic < 256 ^ 2) where
       let l = one-long magic (linkNumber x) (linkSize x) (linkData x []) hm (o .known) (o .count) (o .even) (o .most) in
       rw (p, lt-ltb 0 (length (linkOctets magic x)) l) (ap found.Message (message-back x r))
 
-  -- a Signaling with a link message is refused for transportSpecific, or for want of room
-  pub link-written : (h : Header) (p : PortIdentity) (x : LinkMessage) (room : ℕ)
+  pub link-checked : (h : Header) (p : PortIdentity) (x : LinkMessage) (room : ℕ)
       → writeCheck magic (signaling h p) (linkOctets magic x) room
       ≡ refuse (not (ltb (h .transport) 16)) (Refused Field) (refuse (ltb room (56 + linkSize x)) (Refused Room) Done)
   unfolding writeCheck fixedSize
-  link-written h p x room =
+  link-checked h p x room =
       let n : 44 + length (linkOctets magic x) ≡ 56 + linkSize x = omega (arith, link-count magic x) in
       rw (n, link-sound x, goes-on _ _ _ (le-ltb 65535 (56 + linkSize x) (omega (arith, of-link x .most))))
       (ap (refuse (not (ltb (h .transport) 16)) (Refused Field)) (goes-on _ _ _ refl ∙ goes-on _ _ _ refl))
 
+  -- a Signaling with a link message is refused for transportSpecific with 18, or for want of room with 16, and for nothing else
+  pub link-written : (h : Header) (p : PortIdentity) (x : LinkMessage) (out : List ℕ)
+      → writtenCode (writeOf magic (signaling h p) (linkOctets magic x) out)
+      ≡ refuse (not (ltb (h .transport) 16)) 18 (refuse (ltb (length out) (56 + linkSize x)) 16 0)
+  unfolding refuse
+  link-written h p x out =
+      write-code magic (signaling h p) (linkOctets magic x) out
+      ∙ ap codeOf (link-checked h p x (length out))
+      ∙ numbers (not (ltb (h .transport) 16)) (ltb (length out) (56 + linkSize x))
+    where
+      numbers : (a b : Bool) → codeOf (refuse a (Refused Field) (refuse b (Refused Room) Done)) ≡ refuse a 18 (refuse b 16 0)
+      numbers true b = refl
+      numbers false true = refl
+      numbers false false = refl
+
   -- and is read as that link message, with what stands in the buffer behind it
-  pub link-back : (h : Header) (p : PortIdentity) (x : LinkMessage) (out : List ℕ) (k : ℕ) → MessageRange (signaling h p) → LinkRange x
+  pub link-back : (h : Header) (p : PortIdentity) (x : LinkMessage) (out : List ℕ) (k : ℕ) → LinkRange x
       → writeOf magic (signaling h p) (linkOctets magic x) out ≡ written.Octets k
       → linkOf magic (bufferOf magic (signaling h p) (linkOctets magic x) out) ≡ link.Message x
   unfolding writeOf bufferOf linkOf
-  link-back h p x out k r rx e =
+  link-back h p x out k rx e =
       let m = signaling h p in
       let t = linkOctets magic x in
       let g = gave (writeCheck magic m t (length out)) e .0 in
       let a = allowed magic m t (length out) g in
       let rest = drop (sizeOf (m .body) + length t) out in
-      rw (g, accepted-back magic m t r (length out) rest g, written-tail m t rest r (a .long), written-type m t rest r (a .long), link-found x rx)
+      rw (g, accepted-back magic m t (length out) rest g, written-tail m t rest (a .long), written-type m t rest (a .long), link-found x rx)
       (goes-on _ _ _ refl)
 
   -- an Announce with the suffix is read with its wrFlags
-  pub suffix-back : (h : Header) (b : Announce) (n : ℕ) (out : List ℕ) (k : ℕ) → MessageRange (announcing h b)
+  pub suffix-back : (h : Header) (b : Announce) (n : ℕ) (out : List ℕ) (k : ℕ)
       → writeOf magic (announcing h b) (suffixOctets magic n) out ≡ written.Octets k
       → suffixOf magic (bufferOf magic (announcing h b) (suffixOctets magic n) out) ≡ flags.Flags (n % 16)
   unfolding writeOf bufferOf suffixOf
-  suffix-back h b n out k r e =
+  suffix-back h b n out k e =
       let m = announcing h b in
       let t = suffixOctets magic n in
       let g = gave (writeCheck magic m t (length out)) e .0 in
       let a = allowed magic m t (length out) g in
       let rest = drop (sizeOf (m .body) + length t) out in
-      rw (g, accepted-back magic m t r (length out) rest g, written-tail m t rest r (a .long), written-type m t rest r (a .long), suffix-found n)
+      rw (g, accepted-back magic m t (length out) rest g, written-tail m t rest (a .long), written-type m t rest (a .long), suffix-found n)
       (goes-on _ _ _ refl)

@@ -25,9 +25,9 @@ use Rattle.message.specs.declared.fields.Body.the-variants as body
 use Rattle.message.specs.declared.fields.Message.{Message}
 use Rattle.layout.specs.Layout.{kindOf, sizeOf, leadOctets, identityOctets, closeOctets, stampOctets, announceOctets, headerOctets, bodyOctets, messageOctets}
 use Rattle.layout.proofs.Buffer.{least, body-length}
-use Rattle.roundtrip.specs.Range.{StampRange, BodyRange, MessageRange}
-use Rattle.roundtrip.specs.RoundTrip.{secondsFit}
-use Rattle.roundtrip.proofs.Back.{type-back, length-back, header-back, body-back, drop-fixed}
+use Rattle.roundtrip.specs.Range.{MessageRange}
+use Rattle.roundtrip.specs.RoundTrip.{stampHeld, bodyHeld}
+use Rattle.roundtrip.proofs.Back.{held, type-back, length-back, header-back, body-back, drop-fixed}
 
 -- the nanoseconds of a message's timestamp are not below 10^9
 abbrev pub lateStamp : Body → Bool
@@ -39,22 +39,22 @@ lateStamp (body.Announce a) = leb 1000000000 (a .origin .nanoseconds)
 lateStamp (body.Signaling p) = false
 
 module _ (h : Header) (b : Body) (n : ℕ) where
-  nanoseconds-back : (t : Timestamp) (rest : List ℕ) → StampRange t → be 4 (headerOctets h b n (stampOctets t rest)) 40 ≡ t .nanoseconds
+  nanoseconds-back : (t : Timestamp) (rest : List ℕ) → stampHeld t ≡ true → be 4 (headerOctets h b n (stampOctets t rest)) 40 ≡ t .nanoseconds
   unfolding leadOctets identityOctets closeOctets stampOctets be
-  nanoseconds-back t rest r = be-octets 4 (t .nanoseconds) [] (r .nanoseconds)
+  nanoseconds-back t rest f = be-octets 4 (t .nanoseconds) [] (held t f .1)
 
 -- the check of the timestamp
-stamp-check : (h : Header) (b : Body) (n : ℕ) (rest : List ℕ) → BodyRange b → badStamp (kindOf b) (headerOctets h b n (bodyOctets b rest)) ≡ lateStamp b
-stamp-check h (body.Sync t) n rest r = rw (nanoseconds-back h (body.Sync t) n t rest r)
-stamp-check h (body.DelayReq t) n rest r = rw (nanoseconds-back h (body.DelayReq t) n t rest r)
-stamp-check h (body.FollowUp t) n rest r = rw (nanoseconds-back h (body.FollowUp t) n t rest r)
-stamp-check h (body.DelayResp v) n rest r =
-    rw (nanoseconds-back h (body.DelayResp v) n (v .receive) (identityOctets (v .requester) rest) (r .0))
-stamp-check h (body.Announce a) n rest r =
-    rw (nanoseconds-back h (body.Announce a) n (a .origin) (announceOctets a rest) (r .origin))
-stamp-check h (body.Signaling p) n rest r = refl
+stamp-check : (h : Header) (b : Body) (n : ℕ) (rest : List ℕ) → bodyHeld b ≡ true → badStamp (kindOf b) (headerOctets h b n (bodyOctets b rest)) ≡ lateStamp b
+stamp-check h (body.Sync t) n rest f = rw (nanoseconds-back h (body.Sync t) n t rest f)
+stamp-check h (body.DelayReq t) n rest f = rw (nanoseconds-back h (body.DelayReq t) n t rest f)
+stamp-check h (body.FollowUp t) n rest f = rw (nanoseconds-back h (body.FollowUp t) n t rest f)
+stamp-check h (body.DelayResp v) n rest f =
+    rw (nanoseconds-back h (body.DelayResp v) n (v .receive) (identityOctets (v .requester) rest) f)
+stamp-check h (body.Announce a) n rest f =
+    rw (nanoseconds-back h (body.Announce a) n (a .origin) (announceOctets a rest) f)
+stamp-check h (body.Signaling p) n rest f = refl
 
-module _ (m : Message) (tail rest : List ℕ) (r : MessageRange m) (long : sizeOf (m .body) + length tail ≤ 65535) where
+module _ (m : Message) (tail rest : List ℕ) (long : sizeOf (m .body) + length tail ≤ 65535) where
   abbrev n : ℕ
   n = sizeOf (m .body) + length tail
 
@@ -77,9 +77,9 @@ module _ (m : Message) (tail rest : List ℕ) (r : MessageRange m) (long : sizeO
   unfolding messageOctets leadOctets identityOctets closeOctets
   written-octets = omega (arith, body-length (m .body) (tail ++ rest), length-append tail rest)
 
-  pub written-stamp : badStamp (kindOf (m .body)) s ≡ lateStamp (m .body)
+  pub written-stamp : bodyHeld (m .body) ≡ true → badStamp (kindOf (m .body)) s ≡ lateStamp (m .body)
   unfolding messageOctets
-  written-stamp = stamp-check (m .header) (m .body) n (tail ++ rest) (r .body)
+  written-stamp f = stamp-check (m .header) (m .body) n (tail ++ rest) f
 
   behind : drop (sizeOf (m .body)) s ≡ tail ++ rest
   unfolding messageOctets
@@ -91,16 +91,16 @@ module _ (m : Message) (tail rest : List ℕ) (r : MessageRange m) (long : sizeO
       rw (written-type, written-length, behind, e, take-append-seam)
 
   -- the checks come down to those of the timestamp and of the tail
-  pub written-check : (magic : ℕ) → checkOf magic s ≡ refuse (lateStamp (m .body)) (Refused Stamp) (tailCheck magic tail)
+  pub written-check : bodyHeld (m .body) ≡ true → (magic : ℕ) → checkOf magic s ≡ refuse (lateStamp (m .body)) (Refused Stamp) (tailCheck magic tail)
   unfolding checkOf
-  written-check magic =
-      rw (written-tail, written-version, written-type, written-length, written-stamp, goes-on _ _ _ (le-ltb (length s) 34 (omega (arith, written-octets, least (m .body)))), goes-on _ _ _ (ne-eqb (sizeOf (m .body)) 0 (λ e. omega (arith, least (m .body)))), goes-on _ _ _ (le-ltb n (sizeOf (m .body)) (omega arith)), goes-on _ _ _ (le-ltb (length s) n (omega (arith, written-octets))))
+  written-check f magic =
+      rw (written-tail, written-version, written-type, written-length, written-stamp f, goes-on _ _ _ (le-ltb (length s) 34 (omega (arith, written-octets, least (m .body)))), goes-on _ _ _ (ne-eqb (sizeOf (m .body)) 0 (λ e. omega (arith, least (m .body)))), goes-on _ _ _ (le-ltb n (sizeOf (m .body)) (omega arith)), goes-on _ _ _ (le-ltb (length s) n (omega (arith, written-octets))))
       (goes-on _ _ _ refl)
 
   -- the message
-  pub written-message : secondsFit (m .body) ≡ true → messageOf s ≡ m
+  pub written-message : bodyHeld (m .body) ≡ true → MessageRange m → messageOf s ≡ m
   unfolding messageOctets
-  written-message f =
+  written-message f r =
       λ i. record {
         header = header-back (m .header) (m .body) n (bodyOctets (m .body) (tail ++ rest)) (r .header) i;
         body = body-back (m .header) (m .body) n (tail ++ rest) f (r .body) i;

@@ -1,12 +1,11 @@
--- What the types of a message's fields say of their values: each fits the octets that it has, but for transportSpecific,
--- which has four bits, and seconds, which have 48. Of a link message too.
+-- What the types of a message's fields say of their values: each fits the octets that it has. transportSpecific, which has four
+-- bits, and a timestamp, whose seconds have 48, are looked at in writing. Of a link message too.
 use Prim.Native.Nat.{_^_, _<_}
 use mir.Syntax.{w8, w16, w64}
 use mir.Val.{SFits}
 use Rattle.tlv.specs.declared.wr.LinkMessage.{LinkMessage}
 use Rattle.tlv.specs.declared.wr.LinkMessage.the-variants.{SlavePresent, Lock, Locked, Calibrate, Calibrated, ModeOn}
 use Rattle.message.specs.declared.fields.PortIdentity.{PortIdentity}
-use Rattle.message.specs.declared.fields.Timestamp.{Timestamp}
 use Rattle.message.specs.declared.fields.Header.{Header}
 use Rattle.message.specs.declared.fields.Announce.{Announce}
 use Rattle.message.specs.declared.fields.Body.{Body}
@@ -17,9 +16,6 @@ pub record IdentityRange (p : PortIdentity) : Type 0 where
   pub clock : p .clock < 256 ^ 8
   pub port : p .port < 256 ^ 2
 
-pub record StampRange (t : Timestamp) : Type 0 where
-  pub nanoseconds : t .nanoseconds < 256 ^ 4
-
 pub record HeaderRange (h : Header) : Type 0 where
   pub flags : h .flags < 256 ^ 2
   pub correction : SFits w64 (h .correction)
@@ -28,17 +24,16 @@ pub record HeaderRange (h : Header) : Type 0 where
   pub interval : SFits w8 (h .interval)
 
 pub record AnnounceRange (a : Announce) : Type 0 where
-  pub origin : StampRange (a .origin)
   pub utc : SFits w16 (a .utc)
   pub variance : a .variance < 256 ^ 2
   pub grandmaster : a .grandmaster < 256 ^ 8
   pub steps : a .steps < 256 ^ 2
 
 abbrev pub BodyRange : Body → Type 0
-BodyRange (body.Sync t) = StampRange t
-BodyRange (body.DelayReq t) = StampRange t
-BodyRange (body.FollowUp t) = StampRange t
-BodyRange (body.DelayResp r) = StampRange (r .receive) × IdentityRange (r .requester)
+BodyRange (body.Sync t) = Unit {0}
+BodyRange (body.DelayReq t) = Unit {0}
+BodyRange (body.FollowUp t) = Unit {0}
+BodyRange (body.DelayResp r) = IdentityRange (r .requester)
 BodyRange (body.Announce a) = AnnounceRange a
 BodyRange (body.Signaling p) = IdentityRange p
 

@@ -1,36 +1,48 @@
--- What the theorems of the round trip speak of: the refusal 18 in 01's own words, and the octets of a message with its
+-- What the theorems of the round trip speak of: the refusals 18 and 16 in 01's own words, and the octets of a message with its
 -- reserved fields and controlField as they are written.
-use Prim.Native.Nat.{ℕ, _+_, _^_}
+use Prim.Native.Nat.{ℕ, _+_, _^_, _<_, _≤_}
+use mathlib.Core.Path.{_≡_}
 use mathlib.Core.List.{List, []}
-use mathlib.Core.Bool.{Bool, true, not, _&&_}
+use mathlib.Core.Bool.{Bool, true, false, not, _&&_}
 use lib.Dec.{eqb, ltb, leb}
 use lib.ListN.{length, set}
 use Rattle.refusal.specs.Choice.{pick}
 use Rattle.message.specs.Fields.{typeOf, bodyOf}
 use Rattle.message.specs.Reading.{checkOf}
+use Rattle.message.specs.declared.fields.Timestamp.{Timestamp}
 use Rattle.message.specs.declared.fields.Body.{Body}
 use Rattle.message.specs.declared.fields.Body.the-variants as body
 use Rattle.message.specs.declared.fields.Message.{Message}
 use Rattle.layout.specs.Layout.{controlOf, sizeOf, messageOctets}
 use Rattle.writer.specs.Writing.{isDone}
 
--- "48-bit seconds"
-abbrev pub secondsFit : Body → Bool
-secondsFit (body.Sync t) = ltb (t .seconds) (2 ^ 48)
-secondsFit (body.DelayReq t) = ltb (t .seconds) (2 ^ 48)
-secondsFit (body.FollowUp t) = ltb (t .seconds) (2 ^ 48)
-secondsFit (body.DelayResp r) = ltb (r .receive .seconds) (2 ^ 48)
-secondsFit (body.Announce a) = ltb (a .origin .seconds) (2 ^ 48)
-secondsFit (body.Signaling p) = true
+-- "48-bit seconds, 32-bit nanoseconds"
+abbrev pub stampHeld : Timestamp → Bool
+stampHeld t = ltb (t .seconds) (2 ^ 48) && ltb (t .nanoseconds) (2 ^ 32)
+
+abbrev pub bodyHeld : Body → Bool
+bodyHeld (body.Sync t) = stampHeld t
+bodyHeld (body.DelayReq t) = stampHeld t
+bodyHeld (body.FollowUp t) = stampHeld t
+bodyHeld (body.DelayResp r) = stampHeld (r .receive)
+bodyHeld (body.Announce a) = stampHeld (a .origin)
+bodyHeld (body.Signaling p) = true
 
 -- "a value to write doesn't fit its field or would be refused when read, the length would pass 65,535"
 abbrev pub unfit : ℕ → Message → List ℕ → Bool
 unfit magic m tail =
     not
     (ltb (m .header .transport) 16
-    && secondsFit (m .body)
+    && bodyHeld (m .body)
     && leb (sizeOf (m .body) + length tail) 65535
     && isDone (checkOf magic (messageOctets m tail [])))
+
+-- "Writing: 18, 16": which number it gives, 0 where the message is written, with so much room in the buffer
+pub data WriteWhen (magic : ℕ) (m : Message) (tail : List ℕ) (room : ℕ) : ℕ → Type 0 where
+  no-field : unfit magic m tail ≡ true → WriteWhen magic m tail room 18
+  -- "output buffer smaller than the message"
+  no-room : unfit magic m tail ≡ false → room < sizeOf (m .body) + length tail → WriteWhen magic m tail room 16
+  fitting : unfit magic m tail ≡ false → sizeOf (m .body) + length tail ≤ room → WriteWhen magic m tail room 0
 
 -- "Reserved fields are ignored when read, written as zero": octet 5, octets 16 to 19, and the high half of octet 1, whose
 -- low half is version 2. "controlField .. written" at 32

@@ -1,14 +1,15 @@
 -- What an Announce does to a port, by its cases, and what the customer is promised of it: nobody is pushed out, 13 comes
 -- exactly for a new sender among sixteen live ones, an expired place is used again, and no sender has two records.
 use mathlib.Core.Path.{_≡_, refl, sym, ap, subst, _∙_}
-use mathlib.Core.Bool.{Bool, true, false, not, _&&_}
+use mathlib.Core.Bool.{Bool, true, false, not}
 use Prim.Native.Nat.{ℕ, _≤_, _<_}
 use native.Mathlib.Omega.{arith}
 use native.Mathlib.Decide.{decLt}
 use lib.Dec.{ltb, eqb}
 use lib.ListN.{length, getD, set, length-set}
 use lib.Seq.{getD-set-same, getD-set-other}
-use borrow.Author.Tests.{ltb-true, ltb-false, not-true, not-false, eqb-true, eqb-false, eq-eqb}
+use borrow.Author.Tests.{ltb-true, ltb-false, not-true, not-false, eqb-true, eqb-false}
+use Rattle.laws.proofs.Bools.{clash}
 use Rattle.refusal.specs.Choice.{pick, refuse}
 use Rattle.refusal.specs.Refusal.{numberOf}
 use Rattle.refusal.specs.declared.Refusal.{Refusal}
@@ -21,9 +22,7 @@ use Rattle.senders.specs.declared.Plan.the-variants.{Refuse, Put}
 use Rattle.senders.specs.Record.{windowOf, isOf, isLive, isFree, isNewer, freshOf, nextOf}
 use Rattle.senders.specs.Port.{Port, emptySlot, slotOf, first, senderPlan, planOf, portAfter, New, Live, AllLive, Single}
 use Rattle.senders.proofs.First.{first-misses, first-passes}
-
-clash : {G : Type 0} {b : Bool} → b ≡ true → b ≡ false → G
-clash {G} {b} p q = absurd (let z : _≡_ {A = ℕ} 0 1 = cc in omega arith)
+use Rattle.senders.proofs.Names.{of-name, of-heard, is-of}
 
 -- The cases of an Announce: what is refused, and what is put where.
 pub record Cases (p : Port) (t : ℕ) (a : Notice) (P : Plan → Type 0) : Type 0 where
@@ -265,22 +264,9 @@ module _ (p : Port) (t : ℕ) (a : Notice) (size : length (p .slots) ≡ 16) whe
       })
 
 -- ---- one sender has at most one record
-and-parts : (x y : Bool) → (x && y) ≡ true → (x ≡ true) × (y ≡ true)
-and-parts true true e = (refl, refl)
-and-parts true false e = (refl, e)
-and-parts false y e = clash e refl
-
 -- two records of one sender
 same-sender : (x : PortIdentity) (z r : Record) → isOf x z ≡ true → isOf x r ≡ true → isOf (z .notice .sender) r ≡ true
-same-sender x z r ez er =
-    let c = and-parts _ _ ez in
-    let d = and-parts _ _ (c .1) in
-    let f = and-parts _ _ er in
-    let g = and-parts _ _ (f .1) in
-    let s = z .notice .sender in
-    let clock : r .notice .sender .clock ≡ s .clock = eqb-true _ _ (f .0) ∙ sym (eqb-true _ _ (c .0)) in
-    let port : r .notice .sender .port ≡ s .port = eqb-true _ _ (g .0) ∙ sym (eqb-true _ _ (d .0)) in
-    rw (eq-eqb _ _ clock, eq-eqb _ _ port) (g .1)
+same-sender x z r ez er = is-of (z .notice .sender) r (of-name x r er ∙ sym (of-name x z ez)) (of-heard x r er)
 
 module _ (p : Port) (t : ℕ) (size : length (p .slots) ≡ 16) (single : Single p) (k : ℕ) (z : Record) (inside : k < 16)
     (others : (j : ℕ) → j < 16 → (j ≡ k → ⊥) → isOf (z .notice .sender) (slotOf p j) ≡ false) where
@@ -314,7 +300,7 @@ alone-by : (p : Port) (a : Notice) (k j : ℕ) → Single p → k < 16 → isOf 
 alone-by p a k j single h o g other true e = absurd (other (single (a .sender) j k g h e o))
 alone-by p a k j single h o g other false e = e
 
-alone : (p : Port) (a : Notice) (k : ℕ) → Single p → k < 16 → isOf (a .sender) (slotOf p k) ≡ true
+pub alone : (p : Port) (a : Notice) (k : ℕ) → Single p → k < 16 → isOf (a .sender) (slotOf p k) ≡ true
     → (j : ℕ) → j < 16 → (j ≡ k → ⊥) → isOf (a .sender) (slotOf p j) ≡ false
 alone p a k single h o j g other = alone-by p a k j single h o g other (isOf (a .sender) (slotOf p j)) refl
 

@@ -1,5 +1,10 @@
 pub mod First
+pub mod Names
 pub mod Intake
+pub mod Exactly
+pub mod Keeping
+pub mod History
+pub mod Steady
 pub mod Candidates
 pub mod Witnesses
 pub mod Determined

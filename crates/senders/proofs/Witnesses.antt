@@ -2,12 +2,13 @@
 -- refuses everything or has one answer.
 use mathlib.Core.Path.{_≡_, refl}
 use mathlib.Core.List.{[], _∷_, map}
+use mathlib.Core.Bool.{true, false}
 use Prim.Native.Nat.{ℕ}
 use Rattle.refusal.specs.Choice.{refuse}
 use Rattle.refusal.specs.declared.Refusal.the-variants.{Backward, Stale, Full}
 use Rattle.senders.specs.declared.Notice.{Notice}
 use Rattle.senders.specs.declared.Plan.the-variants.{Refuse, Put}
-use Rattle.senders.specs.Record.{windowOf, freshOf, nextOf}
+use Rattle.senders.specs.Record.{windowOf, isNewer, freshOf, nextOf}
 use Rattle.rank.specs.declared.Candidate.{Candidate}
 use Rattle.senders.specs.Port.{Port, emptySlot, tab, first, kept, planOf, portAfter, candidatesOf}
 
@@ -25,6 +26,10 @@ from clock n =
 -- four intervals of an eighth of a second to sixteen seconds: k = 0, 1, 2, 3, 4, -3, -2, -1 modulo 8
 pub windows : map windowOf (0 ∷ 1 ∷ 2 ∷ 3 ∷ 4 ∷ 5 ∷ 6 ∷ 7 ∷ []) ≡ 4000000000 ∷ 8000000000 ∷ 16000000000 ∷ 32000000000 ∷ 64000000000 ∷ 500000000 ∷ 1000000000 ∷ 2000000000 ∷ []
 windows = refl
+
+-- "(new - old) mod 65,536 in 1 to 32,767": each edge of it, and around the end of 16 bits
+pub newer-edges : map (λ new. isNewer new 65000) (65000 ∷ 65001 ∷ 65535 ∷ 0 ∷ 32231 ∷ 32232 ∷ 64999 ∷ []) ≡ false ∷ true ∷ true ∷ true ∷ true ∷ false ∷ false ∷ []
+newer-edges = refl
 
 -- a fresh port, and one with sixteen senders that were heard at 100
 abbrev new : Port

@@ -113,7 +113,7 @@ headOf [] = Absent
 headOf (c ∷ l) = Found c
 
 unfoldable pub bestOf : ℕ → Port → ℕ → Asked
-bestOf port p t = headOf (best earlierOf ranked.portOf port (candidatesOf port p t))
+bestOf port p t = headOf (best earlierOf ranked.receiverOf port (candidatesOf port p t))
 
 -- "new sender": no slot has a record of it
 abbrev pub New : Port → Notice → Type 0

@@ -1,6 +1,6 @@
 -- Ranges of signed numbers: what the limits tell, and what fits an `i64`.
 use mathlib.Core.Path.{_≡_, refl, sym, ap, ap₂, _∙_, subst}
-use mathlib.Core.Bool.{Bool, true, false, _&&_}
+use mathlib.Core.Bool.{Bool, true, false, _&&_, and-false}
 use mathlib.Core.Logic.{⊎-elim}
 use Prim.Native.Nat.{ℕ, _+_, _^_, _<_, _≤_}
 use native.Mathlib.Omega.{arith}
@@ -9,21 +9,9 @@ use lib.IntN.{ℤ, pos, negsuc, negℤ, natAbs, _+ℤ_, _-ℤ_}
 use lib.Signed.{mag, nonNeg, ltZ}
 use mir.Syntax.{w64}
 use mir.Val.{SFits}
+use Rattle.laws.proofs.Bools.{both}
 use Rattle.signed.specs.Limits.{within, Within, Raisable}
 use Rattle.signed.proofs.Parts.{up, dn, one-zero, add-law, neg-law, sub-law, ltZ-told, lt-ltZ, le-ltZ, leZ-told, le-leZ}
-
--- conjunctions
-pub and-fst : (a b : Bool) → a && b ≡ true → a ≡ true
-and-fst true b e = refl
-and-fst false b e = e
-
-pub and-snd : (a b : Bool) → a && b ≡ true → b ≡ true
-and-snd true b e = e
-and-snd false b e = absurd (subst T (sym e) tt)
-
-pub and-false : (a : Bool) → a && false ≡ false
-and-false true = refl
-and-false false = refl
 
 -- a test that holds, as a claim, and back
 pub holds : {t : Bool} → t ≡ true → T t
@@ -40,8 +28,8 @@ module _ (k : ℕ) (z : ℤ) where
   pub within-told : within k z ≡ true → (up z < 2 ^ k) × (dn z < 2 ^ k)
   unfolding low
   within-told e =
-      let l = ltZ-told low z (and-fst (ltZ low z) (ltZ z (pos (2 ^ k))) e) in
-      let h = ltZ-told z (pos (2 ^ k)) (and-snd (ltZ low z) (ltZ z (pos (2 ^ k))) e) in
+      let l = ltZ-told low z (both (ltZ low z) (ltZ z (pos (2 ^ k))) e .0) in
+      let h = ltZ-told z (pos (2 ^ k)) (both (ltZ low z) (ltZ z (pos (2 ^ k))) e .1) in
       let n = neg-law (pos (2 ^ k)) in
       ⊎-elim (λ u. (omega arith, omega arith)) (λ d. (omega arith, omega arith)) (one-zero z)
 
@@ -66,8 +54,8 @@ module _ (k : ℕ) (z : ℤ) where
   unfolding low
   within-claim e =
       record {
-        above = record { lt = holds (and-fst (ltZ low z) (ltZ z (pos (2 ^ k))) e) };
-        below = record { lt = holds (and-snd (ltZ low z) (ltZ z (pos (2 ^ k))) e) };
+        above = record { lt = holds (both (ltZ low z) (ltZ z (pos (2 ^ k))) e .0) };
+        below = record { lt = holds (both (ltZ low z) (ltZ z (pos (2 ^ k))) e .1) };
       }
 
   pub claim-within : Within k z → within k z ≡ true

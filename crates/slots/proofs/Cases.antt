@@ -96,17 +96,17 @@ head-pick : (b : Bool) (c d : Candidate) (l : List Candidate) → headOf (pick b
 head-pick true c d l = refl
 head-pick false c d l = refl
 
-head-better : (c : Candidate) (l : List Candidate) → headOf (better earlierOf ranked.portOf c l) ≡ ahead c (headOf l)
+head-better : (c : Candidate) (l : List Candidate) → headOf (better earlierOf ranked.receiverOf c l) ≡ ahead c (headOf l)
 head-better c [] = refl
 head-better c (d ∷ l) = head-pick (earlierOf c d) c d l
 
 module _ (port w t : ℕ) (r : Record) (l : List Record) where
-  cons-by : (b : Bool) → headOf (best earlierOf ranked.portOf port (map (candidateOf port) (pick b (r ∷ kept (isQualified w t) l) (kept (isQualified w t) l))))
+  cons-by : (b : Bool) → headOf (best earlierOf ranked.receiverOf port (map (candidateOf port) (pick b (r ∷ kept (isQualified w t) l) (kept (isQualified w t) l))))
       ≡ pick b (ahead (candidateOf port r) (bestIn port w t l)) (bestIn port w t l)
   unfolding bestIn
   cons-by true =
       rw (eq-eqb port port refl)
-      (head-better (candidateOf port r) (best earlierOf ranked.portOf port (map (candidateOf port) (kept (isQualified w t) l))))
+      (head-better (candidateOf port r) (best earlierOf ranked.receiverOf port (map (candidateOf port) (kept (isQualified w t) l))))
   cons-by false = refl
 
   best-cons : bestIn port w t (r ∷ l) ≡ pick (isQualified w t r) (ahead (candidateOf port r) (bestIn port w t l)) (bestIn port w t l)

@@ -22,6 +22,10 @@ use Rattle.slots.specs.declared.Sought.the-variants.{Of, Free}
 use Rattle.slots.specs.declared.Seen.{Seen}
 use Rattle.slots.specs.declared.Seen.the-variants.{Empty, Held}
 
+-- what a port takes: two words, and sixteen records of six
+abbrev pub portWords : ℕ
+portWords = 98
+
 -- the n words from b on, and the words with the n words vs in their place
 abbrev pub block : List ℕ → ℕ → ℕ → List ℕ
 block ws b n = take n (drop b ws)
@@ -138,7 +142,7 @@ outdoesIn ws i b w t = isQualified w t (slotAt ws i) && pick (ltb b 16) (aheadIn
 
 -- the best candidate of a list of records
 unfoldable pub bestIn : ℕ → ℕ → ℕ → List Record → Asked
-bestIn port w t l = headOf (best earlierOf ranked.portOf port (map (candidateOf port) (kept (isQualified w t) l)))
+bestIn port w t l = headOf (best earlierOf ranked.receiverOf port (map (candidateOf port) (kept (isQualified w t) l)))
 
 -- the fields that share a word with others fit their widths
 pub record Small (r : Record) : Type 0 where

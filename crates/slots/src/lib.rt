@@ -6,10 +6,10 @@
 // changes; an Announce that is taken writes one record and the time. Reading messages, and which port's words these
 // are, is left to those above.
 ghost use mathlib.Core.Path.{_≡_};
-ghost use Prim.Native.Nat.{_<_};
+ghost use Prim.Native.Nat.{_-_, _<_};
 ghost use lib.ListN.{length, set};
 ghost use Rattle.senders.specs.Port.{first, planOf, outcomeOf, askedOf, candidateIn, bestOf};
-ghost use Rattle.slots.specs.Words.{ofSix, sixOf, idWord, gradeWord, slotAt, slotsOf, portOf, putSlot, wordsAfter, soughtIn, seenIn, beforeIn, laterIn, aheadIn, outdoesIn};
+ghost use Rattle.slots.specs.Words.{ofSix, sixOf, idWord, gradeWord, slotAt, slotsOf, portOf, putSlot, wordsAfter, soughtIn, seenIn, beforeIn, laterIn, aheadIn, outdoesIn, portWords};
 ghost use Rattle.slots.specs.Places.{slotAmong, placeIn, aboveIn};
 use rank::Grandmaster;
 use rank::PortIdentity;
@@ -20,6 +20,9 @@ use senders::Notice;
 use senders::Plan;
 use senders::Record;
 use senders::SLOTS;
+
+// The words of a port: two, and sixteen records of six.
+pub const WORDS: usize = 98;
 
 // What a slot is looked for by: the record of a sender, or a place that is empty or expired.
 pub enum Sought {
@@ -106,7 +109,7 @@ fn write(s: &mut [u64], r: Record)
 
 // The record in slot `i`.
 fn load(ws: &[u64], i: usize) -> Record
-    requires { ⌜ (length (now ws) ≡ 98) × (i < 16) ⌝ }
+    requires { ⌜ (length (now ws) ≡ portWords) × (i < 16) ⌝ }
     ensures { λ r. ⌜ r ≡ slotAt (now (ws .entry)) i ⌝ }
 {
     let b = 2 + 6 * i;
@@ -115,7 +118,7 @@ fn load(ws: &[u64], i: usize) -> Record
 
 // Slot `i` holds the record afterwards, and no other word changes.
 fn store(ws: &mut [u64], i: usize, r: Record)
-    requires { ⌜ (length (now ws) ≡ 98) × (i < 16) ⌝ }
+    requires { ⌜ (length (now ws) ≡ portWords) × (i < 16) ⌝ }
     ensures { λ _. ⌜ now (ws .exit) ≡ putSlot (now (ws .entry)) i r ⌝ }
 {
     let b = 2 + 6 * i;
@@ -135,7 +138,7 @@ fn is_sought(r: Record, x: Sought) -> bool
 // The lowest slot whose record is a sender's, or 16. This and the next are one search in two functions: each has one caller
 // then, and is made one piece with it.
 fn find_of(ws: &[u64], sender: PortIdentity) -> usize
-    requires { ⌜ length (now ws) ≡ 98 ⌝ }
+    requires { ⌜ length (now ws) ≡ portWords ⌝ }
     ensures { λ r. ⌜ r ≡ first (soughtIn (Sought.Of sender)) (slotsOf (now (ws .entry))) ⌝ }
 {
     let mut i = 0;
@@ -150,7 +153,7 @@ fn find_of(ws: &[u64], sender: PortIdentity) -> usize
 
 // The lowest slot that is empty or expired, or 16.
 fn find_free(ws: &[u64], w: u64, t: u64) -> usize
-    requires { ⌜ length (now ws) ≡ 98 ⌝ }
+    requires { ⌜ length (now ws) ≡ portWords ⌝ }
     ensures { λ r. ⌜ r ≡ first (soughtIn (Sought.Free w t)) (slotsOf (now (ws .entry))) ⌝ }
 {
     let mut i = 0;
@@ -165,7 +168,7 @@ fn find_free(ws: &[u64], w: u64, t: u64) -> usize
 
 // What an Announce at `t` is to do.
 fn plan(ws: &[u64], t: u64, a: Notice) -> Plan
-    requires { ⌜ length (now ws) ≡ 98 ⌝ }
+    requires { ⌜ length (now ws) ≡ portWords ⌝ }
     ensures { λ p. ⌜ p ≡ planOf (portOf (now (ws .entry))) t a ⌝ }
 {
     if t < ws[0] {
@@ -182,7 +185,7 @@ fn plan(ws: &[u64], t: u64, a: Notice) -> Plan
 
 // Takes an Announce at `t`, or refuses it.
 pub fn take(ws: &mut [u64], t: u64, a: Notice) -> Outcome
-    requires { ⌜ length (now ws) ≡ 98 ⌝ }
+    requires { ⌜ length (now ws) ≡ portWords ⌝ }
     ensures { λ r. ⌜ (r ≡ outcomeOf (planOf (portOf (now (ws .entry))) t a)) × (now (ws .exit) ≡ wordsAfter (now (ws .entry)) t (planOf (portOf (now (ws .entry))) t a)) ⌝ }
 {
     let p = plan(ws, t, a);
@@ -198,7 +201,7 @@ pub fn take(ws: &mut [u64], t: u64, a: Notice) -> Outcome
 
 // What slot `i` holds.
 pub fn slot(ws: &[u64], i: usize) -> Seen
-    requires { ⌜ length (now ws) ≡ 98 ⌝ }
+    requires { ⌜ length (now ws) ≡ portWords ⌝ }
     ensures { λ r. ⌜ r ≡ seenIn (portOf (now (ws .entry))) i ⌝ }
 {
     if i < SLOTS {
@@ -212,7 +215,7 @@ pub fn slot(ws: &[u64], i: usize) -> Seen
 
 // The candidate in slot `i` at `t`; `port` is the port that keeps it.
 pub fn candidate(ws: &[u64], port: u8, i: usize, t: u64) -> Asked
-    requires { ⌜ length (now ws) ≡ 98 ⌝ }
+    requires { ⌜ length (now ws) ≡ portWords ⌝ }
     ensures { λ r. ⌜ r ≡ askedOf (portOf (now (ws .entry))) t (candidateIn port (portOf (now (ws .entry))) i t) ⌝ }
 {
     if t < ws[0] {
@@ -263,7 +266,7 @@ fn later_keys(a: u64, b: u64) -> bool
 
 // Whether slot `i` stands before slot `b`.
 fn is_ahead(ws: &[u64], i: usize, b: usize) -> bool
-    requires { ⌜ (length (now ws) ≡ 98) × (i < 16) × (b < 16) ⌝ }
+    requires { ⌜ (length (now ws) ≡ portWords) × (i < 16) × (b < 16) ⌝ }
     ensures { λ r. ⌜ r ≡ aheadIn (now (ws .entry)) i b ⌝ }
 {
     let from = 2 + 6 * i;
@@ -273,7 +276,7 @@ fn is_ahead(ws: &[u64], i: usize, b: usize) -> bool
 
 // Whether the record in slot `i` is qualified and stands before that in slot `b`, where `b` is one.
 fn outdoes(ws: &[u64], i: usize, b: usize, w: u64, t: u64) -> bool
-    requires { ⌜ (length (now ws) ≡ 98) × (i < 16) ⌝ }
+    requires { ⌜ (length (now ws) ≡ portWords) × (i < 16) ⌝ }
     ensures { λ r. ⌜ r ≡ outdoesIn (now (ws .entry)) i b w t ⌝ }
 {
     if !senders::is_qualified(load(ws, i), w, t) {
@@ -285,16 +288,25 @@ fn outdoes(ws: &[u64], i: usize, b: usize, w: u64, t: u64) -> bool
     true
 }
 
-// The slot of the best candidate at `t`, or 16; from the last slot to the first.
+// When the window that ends at `t` begins.
+fn since(w: u64, t: u64) -> u64
+    ensures { λ r. ⌜ r ≡ t - w ⌝ }
+{
+    if w <= t { t - w } else { 0 }
+}
+
+// The slot of the best candidate at `t`, or 16; from the last slot to the first. A record is qualified at `t` where it is
+// at the begin of the window, by a window of no length: one comparison a slot.
 fn best_slot(ws: &[u64], w: u64, t: u64) -> usize
-    requires { ⌜ length (now ws) ≡ 98 ⌝ }
+    requires { ⌜ length (now ws) ≡ portWords ⌝ }
     ensures { λ r. ⌜ r ≡ slotAmong (now (ws .entry)) w t 16 ⌝ }
 {
+    let begin = since(w, t);
     let mut b = SLOTS;
     let mut i = SLOTS;
     while 0 < i {
         i -= 1;
-        if outdoes(ws, i, b, w, t) {
+        if outdoes(ws, i, b, 0, begin) {
             b = i;
         }
     }
@@ -303,7 +315,7 @@ fn best_slot(ws: &[u64], w: u64, t: u64) -> usize
 
 // The best candidate at `t`.
 pub fn best(ws: &[u64], port: u8, t: u64) -> Asked
-    requires { ⌜ length (now ws) ≡ 98 ⌝ }
+    requires { ⌜ length (now ws) ≡ portWords ⌝ }
     ensures { λ r. ⌜ r ≡ askedOf (portOf (now (ws .entry))) t (bestOf port (portOf (now (ws .entry))) t) ⌝ }
 {
     if t < ws[0] {
@@ -318,7 +330,7 @@ pub fn best(ws: &[u64], port: u8, t: u64) -> Asked
 
 // Where the record of the best candidate at `t` begins in the port's words, or 0 where there is none.
 pub fn place(ws: &[u64], t: u64) -> usize
-    requires { ⌜ length (now ws) ≡ 98 ⌝ }
+    requires { ⌜ length (now ws) ≡ portWords ⌝ }
     ensures { λ r. ⌜ r ≡ placeIn (now (ws .entry)) t ⌝ }
 {
     let b = best_slot(ws, senders::window(ws[1]), t);
@@ -353,7 +365,7 @@ pub fn comes_before(a: &[u64], b: &[u64]) -> bool
 
 // The last accepted time.
 pub fn last(ws: &[u64]) -> u64
-    requires { ⌜ length (now ws) ≡ 98 ⌝ }
+    requires { ⌜ length (now ws) ≡ portWords ⌝ }
     ensures { λ r. ⌜ r ≡ portOf (now (ws .entry)) .last ⌝ }
 {
     ws[0]
@@ -361,7 +373,7 @@ pub fn last(ws: &[u64]) -> u64
 
 // The interval's exponent modulo 8, as it was set.
 pub fn exponent(ws: &[u64]) -> u64
-    requires { ⌜ length (now ws) ≡ 98 ⌝ }
+    requires { ⌜ length (now ws) ≡ portWords ⌝ }
     ensures { λ r. ⌜ r ≡ portOf (now (ws .entry)) .e ⌝ }
 {
     ws[1]
@@ -369,7 +381,7 @@ pub fn exponent(ws: &[u64]) -> u64
 
 // Sets the interval's exponent, modulo 8.
 pub fn set_exponent(ws: &mut [u64], e: u64)
-    requires { ⌜ length (now ws) ≡ 98 ⌝ }
+    requires { ⌜ length (now ws) ≡ portWords ⌝ }
     ensures { λ _. ⌜ now (ws .exit) ≡ set (now (ws .entry)) 1 e ⌝ }
 {
     ws[1] = e;

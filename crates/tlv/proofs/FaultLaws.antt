@@ -2,14 +2,14 @@
 use Prim.Native.Nat.{ℕ, _<_, _≤_}
 use mathlib.Core.Path.{_≡_, refl, sym, _∙_}
 use mathlib.Core.List.{List}
-use mathlib.Core.Bool.{Bool, true, false, _&&_}
+use mathlib.Core.Bool.{Bool, true, false, true≢false, false≢true}
 use native.Mathlib.Omega.{arith}
 use borrow.Author.Tests.{lt-ltb, ltb-false, ne-eqb}
 use lib.Dec.{eqb, ltb}
 use lib.ListN.{length}
 use Rattle.refusal.specs.Choice.{pick, refuse}
-use Rattle.refusal.specs.declared.Refusal.{Refusal}
-use Rattle.refusal.specs.declared.Outcome.the-variants.{Done, Refused}
+use Rattle.refusal.proofs.Choice.{no-refusal}
+use Rattle.refusal.specs.declared.Outcome.the-variants.{Done}
 use Rattle.tlv.specs.Walk.{sizeAt, nextOf, broken, first}
 use Rattle.tlv.specs.Form.{numbered, misfitBy, misfitAt}
 use Rattle.tlv.specs.Faults.{soughtAt, whole, misfit, laterOf, faultOf, isSound, soundOf, tailCheck, outcomeOf}
@@ -61,22 +61,8 @@ pub misfit-by : (magic : ℕ) (t : List ℕ) (p : ℕ) {x : Numbered} {l : ℕ} 
 unfolding misfitAt
 misfit-by magic t p ex el eb = rw (← ex, ← el) eb
 
-pub either : {A : Type 0} (b : Bool) (x : A) → pick b x x ≡ x
-either true x = refl
-either false x = refl
-
-pub and-false : (b : Bool) → (b && false) ≡ false
-and-false true = refl
-and-false false = refl
-
 no-place : {p : ℕ} → Faulty ≡ FirstAt p → ⊥
 no-place e = let z : _≡_ {A = ℕ} 0 1 = cc in omega arith
-
-no-truth : _≡_ {A = Bool} false true → ⊥
-no-truth e = let z : _≡_ {A = ℕ} 0 1 = cc in omega arith
-
-no-refusal : {x : Refusal} → Refused x ≡ Done → ⊥
-no-refusal e = let z : _≡_ {A = ℕ} 0 1 = cc in omega arith
 
 -- a place that was found is that of a whole TLV, which is what was looked for
 pub place-found : (what : Sought) (t : List ℕ) {p : ℕ} → p ≡ first (soughtAt what t) t 0 → p < length t → Found (soughtAt what t) t p
@@ -104,17 +90,17 @@ module _ (magic : ℕ) (t : List ℕ) where
     where
       by : (a b : Bool) → whole t ≡ a → eqb (misfit magic t 0) (length t) ≡ b → isSound magic t ≡ true → tailCheck magic t ≡ Done
       by true true ea eb e = rw (ea, eb)
-      by true false ea eb e = absurd (no-truth (rw (ea, eb) at e))
-      by false b ea eb e = absurd (no-truth (rw ea at e))
+      by true false ea eb e = absurd (false≢true (rw (ea, eb) at e))
+      by false b ea eb e = absurd (false≢true (rw ea at e))
 
   pub unsound-check : isSound magic t ≡ false → tailCheck magic t ≡ Done → ⊥
   unfolding isSound tailCheck refuse
   unsound-check = by (whole t) (eqb (misfit magic t 0) (length t)) refl refl
     where
       by : (a b : Bool) → whole t ≡ a → eqb (misfit magic t 0) (length t) ≡ b → isSound magic t ≡ false → tailCheck magic t ≡ Done → ⊥
-      by true true ea eb e d = no-truth (sym (rw (ea, eb) at e))
-      by true false ea eb e d = no-refusal (rw (ea, eb) at d)
-      by false b ea eb e d = no-refusal (rw ea at d)
+      by true true ea eb e d = true≢false (rw (ea, eb) at e)
+      by true false ea eb e d = no-refusal _ (rw (ea, eb) at d)
+      by false b ea eb e d = no-refusal _ (rw ea at d)
 
 -- and the place told is that of the first TLV that passes the test
 module _ (magic : ℕ) (test : ℕ → Bool) (t : List ℕ) where
@@ -134,5 +120,5 @@ module _ (magic : ℕ) (test : ℕ → Bool) (t : List ℕ) where
     where
       by : (a b : Bool) → whole t ≡ a → eqb (misfit magic t 0) (length t) ≡ b → soundOf magic test t ≡ Faulty → tailCheck magic t ≡ Done → ⊥
       by true true ea eb e d = no-place (sym (rw (ea, eb) at e))
-      by true false ea eb e d = no-refusal (rw (ea, eb) at d)
-      by false b ea eb e d = no-refusal (rw ea at d)
+      by true false ea eb e d = no-refusal _ (rw (ea, eb) at d)
+      by false b ea eb e d = no-refusal _ (rw ea at d)

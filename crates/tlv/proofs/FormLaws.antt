@@ -6,6 +6,7 @@ use mathlib.Core.Bool.{Bool, true, false, _&&_}
 use native.Mathlib.Omega.{arith}
 use borrow.Author.Tests.{eqb-true, eqb-false, leb-true, eq-eqb, ne-eqb}
 use lib.Dec.{eqb}
+use Rattle.laws.proofs.Bools.{both}
 use Rattle.octets.specs.Be.{be}
 use Rattle.octets.proofs.Laws.{be-split}
 use Rattle.refusal.specs.Choice.{pick}
@@ -14,10 +15,6 @@ use Rattle.tlv.specs.Form.{wrForm, HasForm, numberAt, numbered, isLink, 
 use Rattle.tlv.specs.declared.form.Numbered.{Numbered}
 use Rattle.tlv.specs.declared.form.Numbered.the-variants.{Number, Other}
 use Rattle.tlv.specs.declared.form.Form.{Form}
-
-both : (a b : Bool) → a && b ≡ true → (a ≡ true) × (b ≡ true)
-both true b e = (refl, e)
-both false b e = absurd (let z : _≡_ {A = ℕ} 0 1 = cc in omega arith)
 
 pub record OfForm (f : Form) (t : List ℕ) (p : ℕ) : Type 0 where
   pub kind : typeAt t p ≡ f .kind

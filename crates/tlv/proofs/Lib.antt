@@ -1,4 +1,5 @@
 pub mod WalkLaws
+pub mod Reached
 pub mod FormLaws
 pub mod FaultLaws
 mod Determined

@@ -9,6 +9,7 @@ use borrow.Author.Tests.{le-leb, lt-leb, eq-eqb, ne-eqb, leb-true, eqb-true, eqb
 use lib.Arith.{lt-of-le-ne}
 use lib.Dec.{eqb, leb}
 use lib.ListN.{length}
+use Rattle.laws.proofs.Bools.{decided}
 use Rattle.octets.specs.Be.{be}
 use Rattle.refusal.specs.Choice.{pick}
 use Rattle.tlv.specs.Walk.{nextOf, sizeAt, Fits, after, walkBy, walk, first, Reached, start, next}
@@ -95,10 +96,6 @@ module _ {A : Type 0} (end : A) (bad : ℕ → A) (cons : ℕ → A → A) (t : 
       let k : eqb p (length t) ≡ false = ne-eqb p (length t) (λ x. omega arith) in
       same-turns (length t) (suc (length t)) p (omega arith) (omega arith) (omega arith) ∙ rw (k, e)
 
-both : (b : Bool) → (b ≡ true) ⊎ (b ≡ false)
-both true = inl refl
-both false = inr refl
-
 next-or : (n : Next) → (n ≡ Bad) ⊎ ((q : ℕ) × (n ≡ At q))
 next-or Bad = inl refl
 next-or (At q) = inr (q, refl)
@@ -120,7 +117,7 @@ module _ (t : List ℕ) (P : ℕ → Type 0) (at-end : P (length t))
       let n = next-fits t p (m .1) in
       at-more p (m .0) l (m .1) (ind-by f (m .0) (omega arith) (n .1)))
       (next-or (nextOf t p)))
-      (both (eqb p (length t)))
+      (decided (eqb p (length t)))
 
   pub walk-ind : (p : ℕ) → p ≤ length t → P p
   walk-ind p h = ind-by (length t) p (omega arith) h

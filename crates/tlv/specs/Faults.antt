@@ -61,6 +61,8 @@ soundOf magic test t =
     (pick (eqb (misfit magic t 0) (length t)) (FirstAt (first test t 0)) Faulty)
     Faulty
 
+-- ---- WHAT ONLY THE CODE NEEDS: steps on the way to the answers above, and no rule of 01
+
 -- the first place so far that passed a test, with p looked at too
 abbrev pub laterOf : ℕ → ℕ → ℕ → Bool → ℕ
 laterOf end soFar p passes = pick (ltb soFar end) soFar (pick passes p soFar)

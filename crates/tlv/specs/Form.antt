@@ -6,6 +6,7 @@ use lib.Dec.{eqb, leb}
 use Rattle.octets.specs.Be.{be}
 use Rattle.refusal.specs.Choice.{pick}
 use Rattle.tlv.specs.Walk.{typeAt, sizeAt}
+use Rattle.tlv.specs.Numbers.{SLAVE-PRESENT, LOCK, LOCKED, CALIBRATE, CALIBRATED, WR-MODE-ON, ANN-SUFIX}
 use Rattle.tlv.specs.declared.form.Form.{Form}
 use Rattle.tlv.specs.declared.form.DataSize.{DataSize}
 use Rattle.tlv.specs.declared.form.DataSize.the-variants.{Octets, Unlisted}
@@ -27,13 +28,13 @@ numberAt t p = be 2 t (p + 10)
 -- "Message numbers (003, Table 4) and N"
 unfoldable pub dataOctets : ℕ → DataSize
 dataOctets n =
-    pick (eqb n 0x1000) (Octets 0)  -- SLAVE_PRESENT
-    (pick (eqb n 0x1001) (Octets 0)  -- LOCK
-    (pick (eqb n 0x1002) (Octets 0)  -- LOCKED
-    (pick (eqb n 0x1003) (Octets 6)  -- CALIBRATE: pattern 1, retry 1, period 4
-    (pick (eqb n 0x1004) (Octets 16)  -- CALIBRATED: deltaTx 8, deltaRx 8
-    (pick (eqb n 0x1005) (Octets 0)  -- WR_MODE_ON
-    (pick (eqb n 0x2000) (Octets 2)  -- ANN_SUFIX: wrFlags
+    pick (eqb n SLAVE-PRESENT) (Octets 0)
+    (pick (eqb n LOCK) (Octets 0)
+    (pick (eqb n LOCKED) (Octets 0)
+    (pick (eqb n CALIBRATE) (Octets 6)  -- pattern 1, retry 1, period 4
+    (pick (eqb n CALIBRATED) (Octets 16)  -- deltaTx 8, deltaRx 8
+    (pick (eqb n WR-MODE-ON) (Octets 0)
+    (pick (eqb n ANN-SUFIX) (Octets 2)  -- wrFlags
     Unlisted))))))
 
 -- "L = 8 + N"; "Other .. numbers are passed over"
@@ -53,17 +54,17 @@ misfitBy Other l = false
 unfoldable pub misfitAt : ℕ → List ℕ → ℕ → Bool
 misfitAt magic t p = misfitBy (numbered magic t p) (sizeAt t p)
 
--- "ANN_SUFIX 0x2000"
+-- an ANN_SUFIX
 abbrev pub isSuffix : Numbered → Bool
-isSuffix (Number n) = eqb n 0x2000
+isSuffix (Number n) = eqb n ANN-SUFIX
 isSuffix Other = false
 
 unfoldable pub suffixAt : ℕ → List ℕ → ℕ → Bool
 suffixAt magic t p = isSuffix (numbered magic t p)
 
--- one of the six from SLAVE_PRESENT 0x1000 to WR_MODE_ON 0x1005
+-- one of the six from SLAVE_PRESENT to WR_MODE_ON
 abbrev pub isLink : Numbered → Bool
-isLink (Number n) = leb 0x1000 n && leb n 0x1005
+isLink (Number n) = leb SLAVE-PRESENT n && leb n WR-MODE-ON
 isLink Other = false
 
 unfoldable pub linkAt : ℕ → List ℕ → ℕ → Bool

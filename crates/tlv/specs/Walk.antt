@@ -65,3 +65,20 @@ dataAt t p = pick (ltb p (length t)) (take (sizeAt t p) (drop (p + 4) t)) []
 pub data Reached (t : List ℕ) : ℕ → Type 0 where
   start : Reached t 0
   next : {p q : ℕ} → Reached t p → p < length t → nextOf t p ≡ At q → Reached t q
+
+-- a TLV of the tail stands at p: the walk comes to it and steps over it
+pub record TlvAt (t : List ℕ) (p : ℕ) : Type 0 where
+  pub reached : Reached t p
+  pub inside : p < length t
+  pub end : ℕ
+  pub whole : nextOf t p ≡ At end
+
+-- the first TLV of the tail that passes a test
+pub record FirstTlv (test : ℕ → Bool) (t : List ℕ) (p : ℕ) : Type 0 where
+  pub at : TlvAt t p
+  pub passes : test p ≡ true
+  pub before : (q : ℕ) → TlvAt t q → q < p → test q ≡ false
+
+-- no TLV of the tail passes it
+abbrev pub NoTlv : (ℕ → Bool) → List ℕ → Type 0
+NoTlv test t = (p : ℕ) → TlvAt t p → test p ≡ false

@@ -6,6 +6,7 @@ use lib.Dec.{eqb, ltb}
 use Rattle.octets.specs.Be.{be}
 use Rattle.refusal.specs.Choice.{pick}
 use Rattle.tlv.specs.Walk.{first}
+use Rattle.tlv.specs.Numbers.{SLAVE-PRESENT, LOCK, LOCKED, CALIBRATE, CALIBRATED}
 use Rattle.tlv.specs.Form.{numberAt, suffixAt, linkAt}
 use Rattle.tlv.specs.declared.wr.Suffix.{Suffix}
 use Rattle.tlv.specs.declared.wr.Suffix.the-variants.{Flags, Absent}
@@ -37,11 +38,11 @@ wrFlagsOf Absent = 0
 unfoldable pub linkMessageAt : List ℕ → ℕ → LinkMessage
 linkMessageAt t p =
     let n = numberAt t p in
-    pick (eqb n 0x1000) SlavePresent
-    (pick (eqb n 0x1001) Lock
-    (pick (eqb n 0x1002) Locked
-    (pick (eqb n 0x1003) (Calibrate (getD t (p + 12) 0) (getD t (p + 13) 0) (be 4 t (p + 14)))
-    (pick (eqb n 0x1004) (Calibrated (be 8 t (p + 12)) (be 8 t (p + 20)))
+    pick (eqb n SLAVE-PRESENT) SlavePresent
+    (pick (eqb n LOCK) Lock
+    (pick (eqb n LOCKED) Locked
+    (pick (eqb n CALIBRATE) (Calibrate (getD t (p + 12) 0) (getD t (p + 13) 0) (be 4 t (p + 14)))
+    (pick (eqb n CALIBRATED) (Calibrated (be 8 t (p + 12)) (be 8 t (p + 20)))
     ModeOn))))
 
 -- the first link message

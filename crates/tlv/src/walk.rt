@@ -197,7 +197,7 @@ pub fn sound_suffix(t: &[u8], magic: u16) -> Sound
 }
 
 // The number alone of a fault.
-fn told(x: Fault) -> Outcome
+fn outcome_of(x: Fault) -> Outcome
     ensures { λ r. ⌜ r ≡ outcomeOf x ⌝ }
 {
     match x {
@@ -211,5 +211,5 @@ fn told(x: Fault) -> Outcome
 pub fn check(t: &[u8], magic: u16) -> Outcome
     ensures { λ r. ⌜ r ≡ tailCheck magic (now (t .entry)) ⌝ }
 {
-    told(first_fault(t, magic))
+    outcome_of(first_fault(t, magic))
 }

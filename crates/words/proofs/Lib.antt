@@ -1,5 +1,4 @@
 pub mod Spread
 pub mod Widen
 pub mod Laws
-pub mod Fixes
 pub mod Determined

@@ -3,6 +3,8 @@ use Prim.Native.Nat.{ℕ, zero, suc, _+_, _-_, _%_}
 use mathlib.Core.List.{List, [], _∷_}
 use Rattle.octets.specs.Be.{octetsOf}
 use Rattle.tlv.specs.Form.{wrForm}
+use Rattle.tlv.specs.Numbers.{ANN-SUFIX}
+pub use Rattle.tlv.specs.Numbers.{linkNumber}
 use Rattle.tlv.specs.declared.wr.LinkMessage.{LinkMessage}
 use Rattle.tlv.specs.declared.wr.LinkMessage.the-variants.{SlavePresent, Lock, Locked, Calibrate, Calibrated, ModeOn}
 use Rattle.message.specs.declared.fields.PortIdentity.{PortIdentity}
@@ -24,22 +26,12 @@ zeros (suc n) = 0 ∷ zeros n
 -- "ANN_SUFIX 0x2000, 2 (wrFlags: bits 0-1 config, 2 calibrated, 3 mode on, rest reserved"; "Reserved fields are ..
 -- written as zero"
 abbrev pub suffixOctets : ℕ → ℕ → List ℕ
-suffixOctets magic flags = wrOctets magic 0x2000 2 (octetsOf 2 (flags % 16) [])
+suffixOctets magic flags = wrOctets magic ANN-SUFIX 2 (octetsOf 2 (flags % 16) [])
 
 abbrev pub suffixTlv : ℕ → ℕ → WrTlv
-suffixTlv magic flags = record { octets = wrOctets magic 0x2000 2 (octetsOf 2 (flags % 16) (zeros 14)); size = 14 }
+suffixTlv magic flags = record { octets = wrOctets magic ANN-SUFIX 2 (octetsOf 2 (flags % 16) (zeros 14)); size = 14 }
 
--- "Message numbers (003, Table 4)": "SLAVE_PRESENT 0x1000, LOCK 0x1001, LOCKED 0x1002, ..; CALIBRATE 0x1003, ..;
--- CALIBRATED 0x1004, ..; WR_MODE_ON 0x1005"
-abbrev pub linkNumber : LinkMessage → ℕ
-linkNumber SlavePresent = 0x1000
-linkNumber Lock = 0x1001
-linkNumber Locked = 0x1002
-linkNumber (Calibrate pattern retry period) = 0x1003
-linkNumber (Calibrated tx rx) = 0x1004
-linkNumber ModeOn = 0x1005
-
--- "and N": 0, but "CALIBRATE .., 6" and "CALIBRATED .., 16"
+-- N: 0, but "CALIBRATE .., 6" and "CALIBRATED .., 16"
 abbrev pub linkSize : LinkMessage → ℕ
 linkSize SlavePresent = 0
 linkSize Lock = 0

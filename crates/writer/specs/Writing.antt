@@ -4,7 +4,9 @@ use mathlib.Core.List.{List}
 use mathlib.Core.Bool.{Bool, true, false, not, _&&_}
 use lib.Dec.{eqb, ltb}
 use lib.ListN.{length, drop}
+use Rattle.refusal.specs.Limits.{secondNanos}
 use Rattle.refusal.specs.Choice.{refuse}
+use Rattle.refusal.specs.Refusal.{numberOf}
 use Rattle.refusal.specs.declared.Refusal.the-variants.{Field, Room}
 use Rattle.refusal.specs.declared.Outcome.{Outcome}
 use Rattle.refusal.specs.declared.Outcome.the-variants as outcome
@@ -21,7 +23,7 @@ use Rattle.writer.specs.declared.writing.Written.the-variants as written
 
 -- "48-bit seconds"; "a timestamp's nanoseconds are 1,000,000,000 or more" when refused
 unfoldable pub stampFits : Timestamp → Bool
-stampFits t = ltb (t .seconds) (2 ^ 48) && ltb (t .nanoseconds) 1000000000
+stampFits t = ltb (t .seconds) (2 ^ 48) && ltb (t .nanoseconds) secondNanos
 
 -- the same of a message, by its type; a Signaling has no timestamp
 abbrev pub bodyFits : Body → Bool
@@ -51,6 +53,11 @@ writeCheck magic m tail room =
 unfoldable pub writeOf : ℕ → Message → List ℕ → List ℕ → Written
 writeOf magic m tail out =
     by (writeCheck magic m tail (length out)) written.Refused (written.Octets (sizeOf (m .body) + length tail))
+
+-- this page's number of the answer, 0 where nothing is refused
+abbrev pub writtenCode : Written → ℕ
+writtenCode (written.Octets n) = 0
+writtenCode (written.Refused x) = numberOf x
 
 -- the buffer at exit: "octets past the message stay"; a refusal leaves the whole buffer as it was
 unfoldable pub bufferOf : ℕ → Message → List ℕ → List ℕ → List ℕ

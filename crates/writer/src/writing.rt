@@ -21,7 +21,7 @@ pub enum Written {
 fn stamp_fits(t: Timestamp) -> bool
     ensures { λ r. ⌜ r ≡ stampFits t ⌝ }
 {
-    (t.seconds < 0x1_0000_0000_0000) & (t.nanoseconds < 1_000_000_000)
+    (t.seconds < 0x1_0000_0000_0000) & (t.nanoseconds < refusal::SECOND_NANOS)
 }
 
 // The same of a message, by its type; a Signaling has no timestamp.

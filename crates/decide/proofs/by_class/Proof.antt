@@ -4,9 +4,6 @@ use borrow.Author.Needs.{needs}
 use Rattle.decide.proofs.by_class.Statement.{statement}
 use Rattle.decide.proofs.by_class.Tie as tie
 
-beats-erbest-requires : tie.Need-beats-erbest-requires
-beats-erbest-requires c κs = search needs
-
 returns : tie.Need-returns
 returns c = rw (sym (c .before .beats-erbest .ensures) ∙ c .if1 .taken)
 
@@ -14,4 +11,4 @@ returns-2 : tie.Need-returns-2
 returns-2 c = rw (sym (c .before .beats-erbest .ensures) ∙ c .if1 .left)
 
 pub by-class-spec : {M : Type 1} → statement M
-by-class-spec = tie.close (tie.spec beats-erbest-requires returns returns-2)
+by-class-spec = tie.close (tie.spec (λ c κs. search needs) returns returns-2)

@@ -8,9 +8,6 @@ use Rattle.decide.proofs.by_ebest.Tie as tie
 returns : tie.Need-returns
 returns c = rw (eq-eqb _ _ (c .if1 .taken))
 
-nearer-requires : tie.Need-nearer-requires
-nearer-requires c κs = search needs
-
 returns-2 : tie.Need-returns-2
 returns-2 c = rw (ne-eqb _ _ (c .before .before .if1 .left), sym (c .before .nearer .ensures) ∙ not-true _ (c .if2 .taken))
 
@@ -25,4 +22,4 @@ returns-4 c =
     rw (ne-eqb _ _ (n .before .if1 .left), sym (n .nearer .ensures) ∙ not-false _ (c .before .if2 .left), c .if3 .left)
 
 pub by-ebest-spec : {M : Type 1} → statement M
-by-ebest-spec = tie.close (tie.spec returns nearer-requires returns-2 returns-3 returns-4)
+by-ebest-spec = tie.close (tie.spec returns (λ c κs. search needs) returns-2 returns-3 returns-4)

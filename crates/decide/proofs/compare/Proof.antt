@@ -6,9 +6,6 @@ use borrow.Author.Needs.{needs}
 use Rattle.decide.proofs.compare.Statement.{statement}
 use Rattle.decide.proofs.compare.Tie as tie
 
-outranks-requires : tie.Need-outranks-requires
-outranks-requires c κs = search needs
-
 returns : tie.Need-returns
 unfolding compareOf differentOf
 returns c = rw (sym (c .before .outranks .ensures) ∙ c .if2 .taken, ne-eqb _ _ (c .before .before .if1 .taken))
@@ -17,20 +14,11 @@ returns-2 : tie.Need-returns-2
 unfolding compareOf differentOf
 returns-2 c = rw (sym (c .before .outranks .ensures) ∙ c .if2 .left, ne-eqb _ _ (c .before .before .if1 .taken))
 
-fewer-requires : tie.Need-fewer-requires
-fewer-requires c κs = search needs
-
 returns-3 : tie.Need-returns-3
 unfolding compareOf sameOf
 returns-3 c =
     let e1 = c .before .before .before .before in
     simp (eq-eqb _ _ (e1 .if1 .left), lt-ltb _ _ (c .before .if3 .taken)) (c .fewer .ensures)
-
-fewer-requires-2 : tie.Need-fewer-requires-2
-fewer-requires-2 c κs = search needs
-
-mirror-requires : tie.Need-mirror-requires
-mirror-requires c κs = search needs
 
 returns-4 : tie.Need-returns-4
 unfolding compareOf sameOf
@@ -40,9 +28,6 @@ returns-4 c =
     let e1 = e3 .before .before .before in
     rw (c .mirror .ensures, c .before .fewer2 .ensures)
     (simp (eq-eqb _ _ (e1 .if1 .left), le-ltb _ _ (e3 .if3 .left), lt-ltb _ _ (t4 .if4 .taken)))
-
-even-requires : tie.Need-even-requires
-even-requires c κs = search needs
 
 returns-5 : tie.Need-returns-5
 unfolding compareOf sameOf
@@ -56,13 +41,13 @@ pub compare-spec : {M : Type 1} → statement M
 compare-spec =
     tie.close
     (tie.spec
-    outranks-requires
+    (λ c κs. search needs)
     returns
     returns-2
-    fewer-requires
+    (λ c κs. search needs)
     returns-3
-    fewer-requires-2
-    mirror-requires
+    (λ c κs. search needs)
+    (λ c κs. search needs)
     returns-4
-    even-requires
+    (λ c κs. search needs)
     returns-5)

@@ -6,24 +6,15 @@ use borrow.Author.Needs.{needs}
 use Rattle.decide.proofs.decide.Statement.{statement}
 use Rattle.decide.proofs.decide.Tie as tie
 
-is-port-requires : tie.Need-is-port-requires
-is-port-requires c κs = search needs
-
 returns : tie.Need-returns
 unfolding refuse
 returns c = rw (sym (c .before .is-port .ensures) ∙ not-true _ (c .if1 .taken))
-
-is-ranked-requires : tie.Need-is-ranked-requires
-is-ranked-requires c κs = search needs
 
 returns-2 : tie.Need-returns-2
 unfolding refuse
 returns-2 c =
     let e1 = c .before .before in
     rw (sym (e1 .before .is-port .ensures) ∙ not-false _ (e1 .if1 .left), sym (c .before .is-ranked .ensures) ∙ not-true _ (c .if2 .taken))
-
-rule-requires : tie.Need-rule-requires
-rule-requires c κs = search needs
 
 returns-3 : tie.Need-returns-3
 unfolding refuse
@@ -39,4 +30,4 @@ returns-3 c =
 pub decide-spec : {M : Type 1} → statement M
 decide-spec =
     tie.close
-    (tie.spec is-port-requires returns is-ranked-requires returns-2 rule-requires returns-3)
+    (tie.spec (λ c κs. search needs) returns (λ c κs. search needs) returns-2 (λ c κs. search needs) returns-3)

@@ -6,15 +6,9 @@ use borrow.Author.Needs.{needs}
 use Rattle.decide.proofs.even.Statement.{statement}
 use Rattle.decide.proofs.even.Tie as tie
 
-precedes-requires : tie.Need-precedes-requires
-precedes-requires c κs = search needs
-
 returns : tie.Need-returns
 unfolding evenOf
 returns c = simp (sym (c .before .precedes .ensures) ∙ c .if1 .taken)
-
-precedes-requires-2 : tie.Need-precedes-requires-2
-precedes-requires-2 c κs = search needs
 
 returns-2 : tie.Need-returns-2
 unfolding evenOf
@@ -63,9 +57,9 @@ pub even-spec : {M : Type 1} → statement M
 even-spec =
     tie.close
     (tie.spec
-    precedes-requires
+    (λ c κs. search needs)
     returns
-    precedes-requires-2
+    (λ c κs. search needs)
     returns-2
     returns-3
     returns-4

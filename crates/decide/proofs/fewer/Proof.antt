@@ -8,17 +8,11 @@ use borrow.Author.Needs.{needs}
 use Rattle.decide.proofs.fewer.Statement.{statement}
 use Rattle.decide.proofs.fewer.Tie as tie
 
-sub-if1 : tie.Need-sub-if1
-sub-if1 c = search needs
-
 returns : tie.Need-returns
 unfolding fewerOf
 returns c =
     let s = c .before .before .before .args in
     simp (le-leb (s .a .steps + 2) (s .b .steps) (omega arith))
-
-precedes-requires : tie.Need-precedes-requires
-precedes-requires c κs = search needs
 
 returns-2 : tie.Need-returns-2
 unfolding fewerOf
@@ -26,9 +20,6 @@ returns-2 c =
     let e1 = c .before .before .before .before in
     let s = e1 .before .before .before .args in
     simp (lt-leb (s .a .steps + 2) (s .b .steps) (omega arith), sym (c .before .precedes .ensures) ∙ c .if2 .taken)
-
-precedes-requires-2 : tie.Need-precedes-requires-2
-precedes-requires-2 c κs = search needs
 
 returns-3 : tie.Need-returns-3
 unfolding fewerOf
@@ -57,4 +48,4 @@ returns-4 c =
 pub fewer-spec : {M : Type 1} → statement M
 fewer-spec =
     tie.close
-    (tie.spec sub-if1 returns precedes-requires returns-2 precedes-requires-2 returns-3 returns-4)
+    (tie.spec (λ c. search needs) returns (λ c κs. search needs) returns-2 (λ c κs. search needs) returns-3 returns-4)

@@ -38,12 +38,6 @@ returns c = rw (c .if1 .taken)
 returns-2 : tie.Need-returns-2
 returns-2 c = rw (c .before .if1 .left, c .if2 .taken)
 
-element-copy-out-e : tie.Need-element-copy-out-e
-element-copy-out-e c = search needs
-
-own-beats-requires : tie.Need-own-beats-requires
-own-beats-requires c κs = search needs
-
 returns-3 : tie.Need-returns-3
 returns-3 c =
     let o = c .before in
@@ -57,4 +51,4 @@ returns-4 c =
 pub leading-spec : {M : Type 1} → statement M
 leading-spec =
     tie.close
-    (tie.spec returns returns-2 element-copy-out-e own-beats-requires returns-3 returns-4)
+    (tie.spec returns returns-2 (λ c. search needs) (λ c κs. search needs) returns-3 returns-4)

@@ -4,27 +4,9 @@ use borrow.Author.Needs.{needs}
 use Rattle.decide.proofs.nearer.Statement.{statement}
 use Rattle.decide.proofs.nearer.Tie as tie
 
-enum-known-best : tie.Need-enum-known-best
-enum-known-best c = search needs
-
-enum-told : tie.Need-enum-told
-enum-told c = search needs
-
 returns : tie.Need-returns
 unfolding nearerOf
 returns c = search needs
-
-set-of-requires : tie.Need-set-of-requires
-set-of-requires c κs = search needs
-
-set-of-requires-2 : tie.Need-set-of-requires-2
-set-of-requires-2 c κs = search needs
-
-compare-requires : tie.Need-compare-requires
-compare-requires c κs = search needs
-
-by-topology-requires : tie.Need-by-topology-requires
-by-topology-requires c κs = search needs
 
 returns-2 : tie.Need-returns-2
 unfolding nearerOf
@@ -42,11 +24,11 @@ pub nearer-spec : {M : Type 1} → statement M
 nearer-spec =
     tie.close
     (tie.spec
-    enum-known-best
-    enum-told
+    (λ c. search needs)
+    (λ c. search needs)
     returns
-    set-of-requires
-    set-of-requires-2
-    compare-requires
-    by-topology-requires
+    (λ c κs. search needs)
+    (λ c κs. search needs)
+    (λ c κs. search needs)
+    (λ c κs. search needs)
     returns-2)

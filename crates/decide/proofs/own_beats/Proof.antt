@@ -4,18 +4,6 @@ use borrow.Author.Needs.{needs}
 use Rattle.decide.proofs.own_beats.Statement.{statement}
 use Rattle.decide.proofs.own_beats.Tie as tie
 
-own-set-requires : tie.Need-own-set-requires
-own-set-requires c κs = search needs
-
-set-of-requires : tie.Need-set-of-requires
-set-of-requires c κs = search needs
-
-compare-requires : tie.Need-compare-requires
-compare-requires c κs = search needs
-
-beats-requires : tie.Need-beats-requires
-beats-requires c κs = search needs
-
 returns : tie.Need-returns
 unfolding ownBeats
 returns c =
@@ -23,4 +11,4 @@ returns c =
 
 pub own-beats-spec : {M : Type 1} → statement M
 own-beats-spec =
-    tie.close (tie.spec own-set-requires set-of-requires compare-requires beats-requires returns)
+    tie.close (tie.spec (λ c κs. search needs) (λ c κs. search needs) (λ c κs. search needs) (λ c κs. search needs) returns)

@@ -9,15 +9,6 @@ use borrow.Author.Needs.{needs}
 use Rattle.decide.proofs.rule.Statement.{statement}
 use Rattle.decide.proofs.rule.Tie as tie
 
-leading-requires : tie.Need-leading-requires
-leading-requires c κs = search needs
-
-holds-requires : tie.Need-holds-requires
-holds-requires c κs = search needs
-
-led-requires : tie.Need-led-requires
-led-requires c κs = search needs
-
 returns : tie.Need-returns
 returns c =
     let h = c .before in
@@ -28,4 +19,4 @@ returns c =
     ∙ led-is (g .own) (unpack (g .list)) (g .port) (g .best)
 
 pub rule-spec : {M : Type 1} → statement M
-rule-spec = tie.close (tie.spec leading-requires holds-requires led-requires returns)
+rule-spec = tie.close (tie.spec (λ c κs. search needs) (λ c κs. search needs) (λ c κs. search needs) returns)

@@ -9,17 +9,11 @@ use borrow.Author.Needs.{needs}
 use Rattle.delay.proofs.between.Statement.{statement}
 use Rattle.delay.proofs.between.Tie as tie
 
-add-if1 : tie.Need-add-if1
-add-if1 c = search needs
-
 returns : tie.Need-returns
 returns c =
     let t = c .before .args in
     let l = sub-law (pos (timeOf (t .a))) (pos (timeOf (t .b))) in
     within-low 47 (pos (timeOf (t .a)) -ℤ pos (timeOf (t .b))) (omega arith)
-
-add-if2 : tie.Need-add-if2
-add-if2 c = search needs
 
 returns-2 : tie.Need-returns-2
 returns-2 c =
@@ -27,35 +21,11 @@ returns-2 c =
     let l = sub-law (pos (timeOf (t .a))) (pos (timeOf (t .b))) in
     within-high 47 (pos (timeOf (t .a)) -ℤ pos (timeOf (t .b))) (omega arith)
 
-add-over : tie.Need-add-over
-add-over c = search needs
-
-sub-over : tie.Need-sub-over
-sub-over c = search needs
-
-mul-over : tie.Need-mul-over
-mul-over c = search needs
-
-add-over-2 : tie.Need-add-over-2
-add-over-2 c = search needs
-
-add-over-3 : tie.Need-add-over-3
-add-over-3 c = search needs
-
-mul-under : tie.Need-mul-under
-mul-under c = search needs
-
-add-under : tie.Need-add-under
-add-under c = search needs
-
 returns-3 : tie.Need-returns-3
 returns-3 c =
     let t = c .before .before .before .before .before .args in
     let l = sub-law (pos (timeOf (t .a))) (pos (timeOf (t .b))) in
     within-low 47 (pos (timeOf (t .a)) -ℤ pos (timeOf (t .b))) (omega arith)
-
-sub-n : tie.Need-sub-n
-sub-n c = search needs
 
 returns-4 : tie.Need-returns-4
 returns-4 c =
@@ -74,18 +44,18 @@ pub between-spec : {M : Type 1} → statement M
 between-spec =
     tie.close
     (tie.spec
-    add-if1
+    (λ c. search needs)
     returns
-    add-if2
+    (λ c. search needs)
     returns-2
-    add-over
-    sub-over
-    mul-over
-    add-over-2
-    add-over-3
-    mul-under
-    add-under
+    (λ c. search needs)
+    (λ c. search needs)
+    (λ c. search needs)
+    (λ c. search needs)
+    (λ c. search needs)
+    (λ c. search needs)
+    (λ c. search needs)
     returns-3
-    sub-n
+    (λ c. search needs)
     returns-4
     returns-5)

@@ -36,18 +36,6 @@ module _ (c : tie.After-in-ns2) where
   m-is : (start .args .m + dn (M (start .args .x)) ≡ up (M (start .args .x)) + 2 ^ 48) × (start .args .m < 2 ^ 49)
   m-is = M-is (start .args .x) (start .args .m) (start .pre)
 
-both-ways-requires : tie.Need-both-ways-requires
-both-ways-requires c κs = search needs
-
-in-ns-requires : tie.Need-in-ns-requires
-in-ns-requires c κs = search needs
-
-one-way-requires : tie.Need-one-way-requires
-one-way-requires c κs = search needs
-
-in-ns-requires-2 : tie.Need-in-ns-requires-2
-in-ns-requires-2 c κs = search needs
-
 add-z : tie.Need-add-z
 add-z c = let m = m-is c in omega arith
 
@@ -116,10 +104,10 @@ pub delay-of-spec : {M : Type 1} → statement M
 delay-of-spec =
     tie.close
     (tie.spec
-    both-ways-requires
-    in-ns-requires
-    one-way-requires
-    in-ns-requires-2
+    (λ c κs. search needs)
+    (λ c κs. search needs)
+    (λ c κs. search needs)
+    (λ c κs. search needs)
     add-z
     add-z-2
     raised-requires

@@ -6,11 +6,8 @@ use borrow.Author.Needs.{needs}
 use Rattle.delay.proofs.in_ns.Statement.{statement}
 use Rattle.delay.proofs.in_ns.Tie as tie
 
-cast-t3 : tie.Need-cast-t3
-cast-t3 c = search needs
-
 returns : tie.Need-returns
 returns c = toZ-pos w64 (omega arith)
 
 pub in-ns-spec : {M : Type 1} → statement M
-in-ns-spec = tie.close (tie.spec cast-t3 returns)
+in-ns-spec = tie.close (tie.spec (λ c. search needs) returns)

@@ -9,15 +9,6 @@ use borrow.Author.Needs.{needs}
 use Rattle.delay.proofs.inner.Statement.{statement}
 use Rattle.delay.proofs.inner.Tie as tie
 
-slave-time-requires : tie.Need-slave-time-requires
-slave-time-requires c κs = search needs
-
-slave-time-requires-2 : tie.Need-slave-time-requires-2
-slave-time-requires-2 c κs = search needs
-
-between-requires : tie.Need-between-requires
-between-requires c κs = search needs
-
 returns : tie.Need-returns
 unfolding t2 t3
 returns c =
@@ -27,4 +18,4 @@ returns c =
 
 pub inner-spec : {M : Type 1} → statement M
 inner-spec =
-    tie.close (tie.spec slave-time-requires slave-time-requires-2 between-requires returns)
+    tie.close (tie.spec (λ c κs. search needs) (λ c κs. search needs) (λ c κs. search needs) returns)

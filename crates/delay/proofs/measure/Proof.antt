@@ -22,15 +22,6 @@ module _ (c : tie.After-known-told) where
   m-is : MIs x (At (c .before .way .given .0 .0))
   m-is = subst (MIs x) (c .before .way .given .1) (c .before .before .before .two-way .ensures)
 
-two-way-requires : tie.Need-two-way-requires
-two-way-requires c κs = search needs
-
-enum-known-way : tie.Need-enum-known-way
-enum-known-way c = search needs
-
-enum-told : tie.Need-enum-told
-enum-told c = search needs
-
 returns : tie.Need-returns
 returns c =
     let x = c .before .before .before .args .x in
@@ -45,12 +36,6 @@ slave-time-requires c κs = m-is (c .before .before) .0 .inputs .stamps .t2
 
 t1-requires : tie.Need-t1-requires
 t1-requires c κs = m-is (c .before .before .before) .0 .inputs
-
-offset-of-requires : tie.Need-offset-of-requires
-offset-of-requires c κs = search needs
-
-lowered-requires : tie.Need-lowered-requires
-lowered-requires c κs = search needs
 
 returns-2 : tie.Need-returns-2
 unfolding t2 offset
@@ -67,13 +52,13 @@ pub measure-spec : {M : Type 1} → statement M
 measure-spec =
     tie.close
     (tie.spec
-    two-way-requires
-    enum-known-way
-    enum-told
+    (λ c κs. search needs)
+    (λ c. search needs)
+    (λ c. search needs)
     returns
     delay-of-requires
     slave-time-requires
     t1-requires
-    offset-of-requires
-    lowered-requires
+    (λ c κs. search needs)
+    (λ c κs. search needs)
     returns-2)

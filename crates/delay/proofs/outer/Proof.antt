@@ -9,15 +9,6 @@ use borrow.Author.Needs.{needs}
 use Rattle.delay.proofs.outer.Statement.{statement}
 use Rattle.delay.proofs.outer.Tie as tie
 
-t4-requires : tie.Need-t4-requires
-t4-requires c κs = search needs
-
-t1-requires : tie.Need-t1-requires
-t1-requires c κs = search needs
-
-between-requires : tie.Need-between-requires
-between-requires c κs = search needs
-
 returns : tie.Need-returns
 returns c =
     let x = c .before .before .before .args .x in
@@ -25,4 +16,4 @@ returns c =
     subst (λ (z : ℤ). SpanIs z (c .between .result)) e (c .between .ensures)
 
 pub outer-spec : {M : Type 1} → statement M
-outer-spec = tie.close (tie.spec t4-requires t1-requires between-requires returns)
+outer-spec = tie.close (tie.spec (λ c κs. search needs) (λ c κs. search needs) (λ c κs. search needs) returns)

@@ -46,9 +46,6 @@ module _ (c : tie.After-portion) where
       let e = c .portion .ensures in
       omega arith
 
-numerator-requires : tie.Need-numerator-requires
-numerator-requires c κs = search needs
-
 add-q : tie.Need-add-q
 add-q c = let h = high c in omega arith
 
@@ -84,7 +81,7 @@ pub share-spec : {M : Type 1} → statement M
 share-spec =
     tie.close
     (tie.spec
-    numerator-requires
+    (λ c κs. search needs)
     add-q
     add-x
     sub-x

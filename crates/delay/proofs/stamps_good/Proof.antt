@@ -4,18 +4,6 @@ use borrow.Author.Needs.{needs}
 use Rattle.delay.proofs.stamps_good.Statement.{statement}
 use Rattle.delay.proofs.stamps_good.Tie as tie
 
-stamp-good-requires : tie.Need-stamp-good-requires
-stamp-good-requires c κs = search needs
-
-stamp-good-requires-2 : tie.Need-stamp-good-requires-2
-stamp-good-requires-2 c κs = search needs
-
-stamp-good-requires-3 : tie.Need-stamp-good-requires-3
-stamp-good-requires-3 c κs = search needs
-
-stamp-good-requires-4 : tie.Need-stamp-good-requires-4
-stamp-good-requires-4 c κs = search needs
-
 returns : tie.Need-returns
 unfolding stampsGood
 returns c = cc
@@ -24,8 +12,8 @@ pub stamps-good-spec : {M : Type 1} → statement M
 stamps-good-spec =
     tie.close
     (tie.spec
-    stamp-good-requires
-    stamp-good-requires-2
-    stamp-good-requires-3
-    stamp-good-requires-4
+    (λ c κs. search needs)
+    (λ c κs. search needs)
+    (λ c κs. search needs)
+    (λ c κs. search needs)
     returns)

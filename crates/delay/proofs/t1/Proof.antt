@@ -9,23 +9,11 @@ use borrow.Author.Needs.{needs}
 use Rattle.delay.proofs.t1.Statement.{statement}
 use Rattle.delay.proofs.t1.Tie as tie
 
-cast-part : tie.Need-cast-part
-cast-part c = search needs
-
-mul-part : tie.Need-mul-part
-mul-part c = search needs
-
-raised-requires : tie.Need-raised-requires
-raised-requires c κs = search needs
-
 add-part : tie.Need-add-part
 add-part c =
     let b = c .before .before .before .before .before in
     let s = raised-is (b .args .x .corrections .sync .0) (c .raised .result) (b .pre .corrections .sync) (c .raised .ensures) in
     omega arith
-
-raised-requires-2 : tie.Need-raised-requires-2
-raised-requires-2 c κs = search needs
 
 add-part-2 : tie.Need-add-part-2
 add-part-2 c =
@@ -48,4 +36,4 @@ returns c =
 pub t1-spec : {M : Type 1} → statement M
 t1-spec =
     tie.close
-    (tie.spec cast-part mul-part raised-requires add-part raised-requires-2 add-part-2 returns)
+    (tie.spec (λ c. search needs) (λ c. search needs) (λ c κs. search needs) add-part (λ c κs. search needs) add-part-2 returns)

@@ -9,21 +9,6 @@ use borrow.Author.Needs.{needs}
 use Rattle.delay.proofs.t4.Statement.{statement}
 use Rattle.delay.proofs.t4.Tie as tie
 
-cast-part : tie.Need-cast-part
-cast-part c = search needs
-
-mul-part : tie.Need-mul-part
-mul-part c = search needs
-
-add-part : tie.Need-add-part
-add-part c = search needs
-
-add-part-2 : tie.Need-add-part-2
-add-part-2 c = search needs
-
-raised-requires : tie.Need-raised-requires
-raised-requires c κs = search needs
-
 sub-part : tie.Need-sub-part
 sub-part c =
     let b = c .before .before .before .before in
@@ -40,4 +25,4 @@ returns c =
     record { is = raised-of (t4 x) (2 ^ 48) _ (omega arith); fair = omega arith }
 
 pub t4-spec : {M : Type 1} → statement M
-t4-spec = tie.close (tie.spec cast-part mul-part add-part add-part-2 raised-requires sub-part returns)
+t4-spec = tie.close (tie.spec (λ c. search needs) (λ c. search needs) (λ c. search needs) (λ c. search needs) (λ c κs. search needs) sub-part returns)

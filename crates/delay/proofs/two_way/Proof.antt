@@ -34,9 +34,6 @@ module _ (c : tie.After-known-told2) where
   back : SpanIs (t3 x -ℤ t2 x) (At v)
   back = subst (SpanIs (t3 x -ℤ t2 x)) (c .before .back .given .1) (c .before .before .before .before .before .before .inner .ensures)
 
-inputs-good-requires : tie.Need-inputs-good-requires
-inputs-good-requires c κs = search needs
-
 returns : tie.Need-returns
 returns c = no-inputs (c .before .before .args .x) (sym (c .before .inputs-good .ensures) ∙ not-true _ (c .if1 .taken))
 
@@ -46,22 +43,10 @@ outer-requires c κs = inputs c
 inner-requires : tie.Need-inner-requires
 inner-requires c κs = inputs (c .before)
 
-enum-known-there : tie.Need-enum-known-there
-enum-known-there c = search needs
-
-enum-told : tie.Need-enum-told
-enum-told c = search needs
-
 returns-2 : tie.Need-returns-2
 returns-2 c =
     let x = c .before .before .before .before .before .before .args .x in
     no-outer x (subst (SpanIs (t4 x -ℤ t1 x)) (c .enum-told .given .1) (c .before .before .before .outer .ensures))
-
-enum-known-back : tie.Need-enum-known-back
-enum-known-back c = search needs
-
-enum-told-2 : tie.Need-enum-told-2
-enum-told-2 c = search needs
 
 returns-3 : tie.Need-returns-3
 returns-3 c =
@@ -86,15 +71,15 @@ pub two-way-spec : {M : Type 1} → statement M
 two-way-spec =
     tie.close
     (tie.spec
-    inputs-good-requires
+    (λ c κs. search needs)
     returns
     outer-requires
     inner-requires
-    enum-known-there
-    enum-told
+    (λ c. search needs)
+    (λ c. search needs)
     returns-2
-    enum-known-back
-    enum-told-2
+    (λ c. search needs)
+    (λ c. search needs)
     returns-3
     add-m
     sub-m

@@ -3,18 +3,6 @@ use borrow.Author.Needs.{needs}
 use Rattle.exchange_words.proofs.exchange_of.Statement.{statement}
 use Rattle.exchange_words.proofs.exchange_of.Tie as tie
 
-stamps-of-requires : tie.Need-stamps-of-requires
-stamps-of-requires c κs = search needs
-
-corrections-of-requires : tie.Need-corrections-of-requires
-corrections-of-requires c κs = search needs
-
-latencies-of-requires : tie.Need-latencies-of-requires
-latencies-of-requires c κs = search needs
-
-asymmetry-of-requires : tie.Need-asymmetry-of-requires
-asymmetry-of-requires c κs = search needs
-
 returns : tie.Need-returns
 returns c =
     let l = c .before in
@@ -25,8 +13,8 @@ pub exchange-of-spec : {M : Type 1} → statement M
 exchange-of-spec =
     tie.close
     (tie.spec
-    stamps-of-requires
-    corrections-of-requires
-    latencies-of-requires
-    asymmetry-of-requires
+    (λ c κs. search needs)
+    (λ c κs. search needs)
+    (λ c κs. search needs)
+    (λ c κs. search needs)
     returns)

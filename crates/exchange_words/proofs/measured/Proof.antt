@@ -6,17 +6,8 @@ use borrow.Author.Needs.{needs}
 use Rattle.exchange_words.proofs.measured.Statement.{statement}
 use Rattle.exchange_words.proofs.measured.Tie as tie
 
-exchange-fits-requires : tie.Need-exchange-fits-requires
-exchange-fits-requires c κs = search needs
-
 returns : tie.Need-returns
 returns c = is-refused _ _ (c .before .exchange-fits .ensures) _ _ (c .if1 .taken)
-
-exchange-of-requires : tie.Need-exchange-of-requires
-exchange-of-requires c κs = search needs
-
-measure-requires : tie.Need-measure-requires
-measure-requires c κs = search needs
 
 returns-2 : tie.Need-returns-2
 returns-2 c =
@@ -27,4 +18,4 @@ returns-2 c =
 pub measured-spec : {M : Type 1} → statement M
 measured-spec =
     tie.close
-    (tie.spec exchange-fits-requires returns exchange-of-requires measure-requires returns-2)
+    (tie.spec (λ c κs. search needs) returns (λ c κs. search needs) (λ c κs. search needs) returns-2)

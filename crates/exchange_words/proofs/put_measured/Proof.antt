@@ -8,21 +8,6 @@ use borrow.Author.Needs.{needs}
 use Rattle.exchange_words.proofs.put_measured.Statement.{statement}
 use Rattle.exchange_words.proofs.put_measured.Tie as tie
 
-enum-known-m : tie.Need-enum-known-m
-enum-known-m c = search needs
-
-number-requires : tie.Need-number-requires
-number-requires c κs = search needs
-
-enum-known-m-2 : tie.Need-enum-known-m-2
-enum-known-m-2 c = search needs
-
-bits64-requires : tie.Need-bits64-requires
-bits64-requires c κs = search needs
-
-bits64-requires-2 : tie.Need-bits64-requires-2
-bits64-requires-2 c κs = search needs
-
 returns : tie.Need-returns
 returns c = rw (c .before .before .m .given .1) (c .number .ensures, refl)
 
@@ -46,10 +31,10 @@ pub put-measured-spec : {M : Type 1} → statement M
 put-measured-spec =
     tie.close
     (tie.spec
-    enum-known-m
-    number-requires
-    enum-known-m-2
-    bits64-requires
-    bits64-requires-2
+    (λ c. search needs)
+    (λ c κs. search needs)
+    (λ c. search needs)
+    (λ c κs. search needs)
+    (λ c κs. search needs)
     returns
     returns-2)

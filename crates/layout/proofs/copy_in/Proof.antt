@@ -13,30 +13,6 @@ use borrow.Author.Needs.{needs}
 use Rattle.layout.proofs.copy_in.Statement.{statement}
 use Rattle.layout.proofs.copy_in.Tie as tie
 
-copy-each-requires : tie.Need-copy-each-requires
-copy-each-requires c κs = search needs
-
-same-length : tie.Need-same-length
-same-length c = search needs
-
-returns : tie.Need-returns
-returns c = search needs
-
-copy-eights-requires : tie.Need-copy-eights-requires
-copy-eights-requires c κs = search needs
-
-add-eight : tie.Need-add-eight
-add-eight c = search needs
-
-u64-at-requires : tie.Need-u64-at-requires
-u64-at-requires c κs = search needs
-
-eight-requires : tie.Need-eight-requires
-eight-requires c κs = search needs
-
-same-length-2 : tie.Need-same-length-2
-same-length-2 c = search needs
-
 returns-2 : tie.Need-returns-2
 returns-2 c =
     let k = c .before .before in
@@ -60,12 +36,12 @@ pub copy-in-spec : {M : Type 1} → statement M
 copy-in-spec =
     tie.close
     (tie.spec
-    copy-each-requires
-    same-length
-    returns
-    copy-eights-requires
-    add-eight
-    u64-at-requires
-    eight-requires
-    same-length-2
+    (λ c κs. search needs)
+    (λ c. search needs)
+    (λ c. search needs)
+    (λ c κs. search needs)
+    (λ c. search needs)
+    (λ c κs. search needs)
+    (λ c κs. search needs)
+    (λ c. search needs)
     returns-2)

@@ -8,15 +8,6 @@ use borrow.Author.Needs.{needs}
 use Rattle.layout.proofs.put_announce.Statement.{statement}
 use Rattle.layout.proofs.put_announce.Tie as tie
 
-put-offset-requires : tie.Need-put-offset-requires
-put-offset-requires c κs = search needs
-
-put-grandmaster-requires : tie.Need-put-grandmaster-requires
-put-grandmaster-requires c κs = search needs
-
-same-length : tie.Need-same-length
-same-length c = search needs
-
 returns : tie.Need-returns
 unfolding announceOctets offsetOctets grandmasterOctets
 returns c =
@@ -27,4 +18,4 @@ returns c =
 
 pub put-announce-spec : {M : Type 1} → statement M
 put-announce-spec =
-    tie.close (tie.spec put-offset-requires put-grandmaster-requires same-length returns)
+    tie.close (tie.spec (λ c κs. search needs) (λ c κs. search needs) (λ c. search needs) returns)

@@ -13,12 +13,6 @@ use Rattle.layout.proofs.put_body.Tie as tie
 put-first-requires : tie.Need-put-first-requires
 put-first-requires c κs = let s = c .before .before in omega (arith, s .pre, least (s .args .b))
 
-put-more-requires : tie.Need-put-more-requires
-put-more-requires c κs = search needs
-
-same-length : tie.Need-same-length
-same-length c = search needs
-
 returns : tie.Need-returns
 returns c =
     let k2 = c .before .before in
@@ -32,4 +26,4 @@ returns c =
     ∙ ap (over d 34) (first-append b (moreOctets b []))
 
 pub put-body-spec : {M : Type 1} → statement M
-put-body-spec = tie.close (tie.spec put-first-requires put-more-requires same-length returns)
+put-body-spec = tie.close (tie.spec put-first-requires (λ c κs. search needs) (λ c. search needs) returns)

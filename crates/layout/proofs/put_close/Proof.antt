@@ -17,24 +17,6 @@ use Rattle.layout.proofs.put_close.Tie as tie
 interval-fits : (c : tie.After-struct-told) → SFits w8 (c .before .before .args .h .interval)
 interval-fits c = search needs
 
-bits8-requires : tie.Need-bits8-requires
-bits8-requires c κs = search needs
-
-cast-two : tie.Need-cast-two
-cast-two c = search needs
-
-two-requires : tie.Need-two-requires
-two-requires c κs = search needs
-
-one-requires : tie.Need-one-requires
-one-requires c κs = search needs
-
-one-requires-2 : tie.Need-one-requires-2
-one-requires-2 c κs = search needs
-
-same-length : tie.Need-same-length
-same-length c = search needs
-
 returns : tie.Need-returns
 unfolding closeOctets
 returns c =
@@ -53,4 +35,4 @@ returns c =
 pub put-close-spec : {M : Type 1} → statement M
 put-close-spec =
     tie.close
-    (tie.spec bits8-requires cast-two two-requires one-requires one-requires-2 same-length returns)
+    (tie.spec (λ c κs. search needs) (λ c. search needs) (λ c κs. search needs) (λ c κs. search needs) (λ c κs. search needs) (λ c. search needs) returns)

@@ -9,30 +9,6 @@ use borrow.Author.Needs.{needs}
 use Rattle.layout.proofs.put_grandmaster.Statement.{statement}
 use Rattle.layout.proofs.put_grandmaster.Tie as tie
 
-cast-two : tie.Need-cast-two
-cast-two c = search needs
-
-two-requires : tie.Need-two-requires
-two-requires c κs = search needs
-
-one-requires : tie.Need-one-requires
-one-requires c κs = search needs
-
-eight-requires : tie.Need-eight-requires
-eight-requires c κs = search needs
-
-cast-two-2 : tie.Need-cast-two-2
-cast-two-2 c = search needs
-
-two-requires-2 : tie.Need-two-requires-2
-two-requires-2 c κs = search needs
-
-one-requires-2 : tie.Need-one-requires-2
-one-requires-2 c κs = search needs
-
-same-length : tie.Need-same-length
-same-length c = search needs
-
 returns : tie.Need-returns
 unfolding grandmasterOctets
 returns c =
@@ -60,12 +36,12 @@ pub put-grandmaster-spec : {M : Type 1} → statement M
 put-grandmaster-spec =
     tie.close
     (tie.spec
-    cast-two
-    two-requires
-    one-requires
-    eight-requires
-    cast-two-2
-    two-requires-2
-    one-requires-2
-    same-length
+    (λ c. search needs)
+    (λ c κs. search needs)
+    (λ c κs. search needs)
+    (λ c κs. search needs)
+    (λ c. search needs)
+    (λ c κs. search needs)
+    (λ c κs. search needs)
+    (λ c. search needs)
     returns)

@@ -9,23 +9,8 @@ use borrow.Author.Needs.{needs}
 use Rattle.layout.proofs.put_header.Statement.{statement}
 use Rattle.layout.proofs.put_header.Tie as tie
 
-kind-of-requires : tie.Need-kind-of-requires
-kind-of-requires c κs = search needs
-
 put-lead-requires : tie.Need-put-lead-requires
 put-lead-requires c κs = let s = c .before .before .before in (s .pre .0, omega (arith, kind-below (s .args .b)), omega (arith, s .pre .1))
-
-put-identity-requires : tie.Need-put-identity-requires
-put-identity-requires c κs = search needs
-
-control-of-requires : tie.Need-control-of-requires
-control-of-requires c κs = search needs
-
-put-close-requires : tie.Need-put-close-requires
-put-close-requires c κs = search needs
-
-same-length : tie.Need-same-length
-same-length c = search needs
 
 returns : tie.Need-returns
 unfolding leadOctets identityOctets closeOctets
@@ -51,10 +36,10 @@ pub put-header-spec : {M : Type 1} → statement M
 put-header-spec =
     tie.close
     (tie.spec
-    kind-of-requires
+    (λ c κs. search needs)
     put-lead-requires
-    put-identity-requires
-    control-of-requires
-    put-close-requires
-    same-length
+    (λ c κs. search needs)
+    (λ c κs. search needs)
+    (λ c κs. search needs)
+    (λ c. search needs)
     returns)

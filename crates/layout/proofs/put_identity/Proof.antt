@@ -9,21 +9,6 @@ use borrow.Author.Needs.{needs}
 use Rattle.layout.proofs.put_identity.Statement.{statement}
 use Rattle.layout.proofs.put_identity.Tie as tie
 
-eight-requires : tie.Need-eight-requires
-eight-requires c κs = search needs
-
-add-two : tie.Need-add-two
-add-two c = search needs
-
-cast-two : tie.Need-cast-two
-cast-two c = search needs
-
-two-requires : tie.Need-two-requires
-two-requires c κs = search needs
-
-same-length : tie.Need-same-length
-same-length c = search needs
-
 returns : tie.Need-returns
 unfolding identityOctets
 returns c =
@@ -34,4 +19,4 @@ returns c =
 
 pub put-identity-spec : {M : Type 1} → statement M
 put-identity-spec =
-    tie.close (tie.spec eight-requires add-two cast-two two-requires same-length returns)
+    tie.close (tie.spec (λ c κs. search needs) (λ c. search needs) (λ c. search needs) (λ c κs. search needs) (λ c. search needs) returns)

@@ -18,21 +18,6 @@ use Rattle.layout.proofs.put_lead.Tie as tie
 correction-fits : (c : tie.After-struct-told) → SFits w64 (c .before .before .args .h .correction)
 correction-fits c = search needs
 
-bits64-requires : tie.Need-bits64-requires
-bits64-requires c κs = search needs
-
-put-start-requires : tie.Need-put-start-requires
-put-start-requires c κs = search needs
-
-eight-requires : tie.Need-eight-requires
-eight-requires c κs = search needs
-
-four-requires : tie.Need-four-requires
-four-requires c κs = search needs
-
-same-length : tie.Need-same-length
-same-length c = search needs
-
 returns : tie.Need-returns
 unfolding leadOctets startOctets
 returns c =
@@ -53,4 +38,4 @@ returns c =
 pub put-lead-spec : {M : Type 1} → statement M
 put-lead-spec =
     tie.close
-    (tie.spec bits64-requires put-start-requires eight-requires four-requires same-length returns)
+    (tie.spec (λ c κs. search needs) (λ c κs. search needs) (λ c κs. search needs) (λ c κs. search needs) (λ c. search needs) returns)

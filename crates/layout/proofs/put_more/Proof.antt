@@ -6,31 +6,13 @@ use borrow.Author.Needs.{needs}
 use Rattle.layout.proofs.put_more.Statement.{statement}
 use Rattle.layout.proofs.put_more.Tie as tie
 
-enum-told : tie.Need-enum-told
-enum-told c = search needs
-
-enum-told-2 : tie.Need-enum-told-2
-enum-told-2 c = search needs
-
-enum-told-3 : tie.Need-enum-told-3
-enum-told-3 c = search needs
-
-enum-known-b : tie.Need-enum-known-b
-enum-known-b c = search needs
-
 put-identity-requires : tie.Need-put-identity-requires
 unfolding fixedSize
 put-identity-requires c κs = let b = c .before .before in omega (arith, rw (b .b .given .1) at (b .before .before .before .pre))
 
-enum-known-b-2 : tie.Need-enum-known-b-2
-enum-known-b-2 c = search needs
-
 put-announce-requires : tie.Need-put-announce-requires
 unfolding fixedSize
 put-announce-requires c κs = let b = c .before .before in omega (arith, rw (b .b2 .given .1) at (b .before .before .before .pre))
-
-enum-told-4 : tie.Need-enum-told-4
-enum-told-4 c = search needs
 
 returns : tie.Need-returns
 returns c = rw (c .enum-told .given .1) (put-none (c .before .before .before .args .out .now) 44)
@@ -41,14 +23,8 @@ returns-2 c = rw (c .enum-told2 .given .1) (put-none (c .before .before .before 
 returns-3 : tie.Need-returns-3
 returns-3 c = rw (c .enum-told3 .given .1) (put-none (c .before .before .before .args .out .now) 44)
 
-same-length : tie.Need-same-length
-same-length c = search needs
-
 returns-4 : tie.Need-returns-4
 returns-4 c = let k = c .before .before in rw (k .before .before .before .b .given .1) (k .put-identity .ensures)
-
-same-length-2 : tie.Need-same-length-2
-same-length-2 c = search needs
 
 returns-5 : tie.Need-returns-5
 returns-5 c = let k = c .before .before in rw (k .before .before .before .b2 .given .1) (k .put-announce .ensures)
@@ -60,19 +36,19 @@ pub put-more-spec : {M : Type 1} → statement M
 put-more-spec =
     tie.close
     (tie.spec
-    enum-told
-    enum-told-2
-    enum-told-3
-    enum-known-b
+    (λ c. search needs)
+    (λ c. search needs)
+    (λ c. search needs)
+    (λ c. search needs)
     put-identity-requires
-    enum-known-b-2
+    (λ c. search needs)
     put-announce-requires
-    enum-told-4
+    (λ c. search needs)
     returns
     returns-2
     returns-3
-    same-length
+    (λ c. search needs)
     returns-4
-    same-length-2
+    (λ c. search needs)
     returns-5
     returns-6)

@@ -17,30 +17,6 @@ use Rattle.layout.proofs.put_offset.Tie as tie
 utc-fits : (c : tie.After-struct-told) → SFits w16 (c .before .before .args .a .utc)
 utc-fits c = search needs
 
-bits16-requires : tie.Need-bits16-requires
-bits16-requires c κs = search needs
-
-cast-two : tie.Need-cast-two
-cast-two c = search needs
-
-two-requires : tie.Need-two-requires
-two-requires c κs = search needs
-
-one-requires : tie.Need-one-requires
-one-requires c κs = search needs
-
-one-requires-2 : tie.Need-one-requires-2
-one-requires-2 c κs = search needs
-
-one-requires-3 : tie.Need-one-requires-3
-one-requires-3 c κs = search needs
-
-one-requires-4 : tie.Need-one-requires-4
-one-requires-4 c κs = search needs
-
-same-length : tie.Need-same-length
-same-length c = search needs
-
 returns : tie.Need-returns
 unfolding offsetOctets
 returns c =
@@ -67,12 +43,12 @@ pub put-offset-spec : {M : Type 1} → statement M
 put-offset-spec =
     tie.close
     (tie.spec
-    bits16-requires
-    cast-two
-    two-requires
-    one-requires
-    one-requires-2
-    one-requires-3
-    one-requires-4
-    same-length
+    (λ c κs. search needs)
+    (λ c. search needs)
+    (λ c κs. search needs)
+    (λ c κs. search needs)
+    (λ c κs. search needs)
+    (λ c κs. search needs)
+    (λ c κs. search needs)
+    (λ c. search needs)
     returns)

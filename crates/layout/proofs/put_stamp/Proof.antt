@@ -9,18 +9,6 @@ use borrow.Author.Needs.{needs}
 use Rattle.layout.proofs.put_stamp.Statement.{statement}
 use Rattle.layout.proofs.put_stamp.Tie as tie
 
-six-requires : tie.Need-six-requires
-six-requires c κs = search needs
-
-cast-four : tie.Need-cast-four
-cast-four c = search needs
-
-four-requires : tie.Need-four-requires
-four-requires c κs = search needs
-
-same-length : tie.Need-same-length
-same-length c = search needs
-
 returns : tie.Need-returns
 unfolding stampOctets
 returns c =
@@ -30,4 +18,4 @@ returns c =
     put-two (s .out .now) 34 (omega arith) (octetsOf 6 (s .t .seconds) []) (octetsOf 4 (s .t .nanoseconds) []) refl refl refl (k1 .six .ensures) (k2 .four .ensures)
 
 pub put-stamp-spec : {M : Type 1} → statement M
-put-stamp-spec = tie.close (tie.spec six-requires cast-four four-requires same-length returns)
+put-stamp-spec = tie.close (tie.spec (λ c κs. search needs) (λ c. search needs) (λ c κs. search needs) (λ c. search needs) returns)

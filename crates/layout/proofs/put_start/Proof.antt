@@ -10,36 +10,6 @@ use borrow.Author.Needs.{needs}
 use Rattle.layout.proofs.put_start.Statement.{statement}
 use Rattle.layout.proofs.put_start.Tie as tie
 
-mul-one : tie.Need-mul-one
-mul-one c = search needs
-
-add-one : tie.Need-add-one
-add-one c = search needs
-
-one-requires : tie.Need-one-requires
-one-requires c κs = search needs
-
-one-requires-2 : tie.Need-one-requires-2
-one-requires-2 c κs = search needs
-
-two-requires : tie.Need-two-requires
-two-requires c κs = search needs
-
-one-requires-3 : tie.Need-one-requires-3
-one-requires-3 c κs = search needs
-
-one-requires-4 : tie.Need-one-requires-4
-one-requires-4 c κs = search needs
-
-cast-two : tie.Need-cast-two
-cast-two c = search needs
-
-two-requires-2 : tie.Need-two-requires-2
-two-requires-2 c κs = search needs
-
-same-length : tie.Need-same-length
-same-length c = search needs
-
 returns : tie.Need-returns
 unfolding startOctets
 returns c =
@@ -71,14 +41,14 @@ pub put-start-spec : {M : Type 1} → statement M
 put-start-spec =
     tie.close
     (tie.spec
-    mul-one
-    add-one
-    one-requires
-    one-requires-2
-    two-requires
-    one-requires-3
-    one-requires-4
-    cast-two
-    two-requires-2
-    same-length
+    (λ c. search needs)
+    (λ c. search needs)
+    (λ c κs. search needs)
+    (λ c κs. search needs)
+    (λ c κs. search needs)
+    (λ c κs. search needs)
+    (λ c κs. search needs)
+    (λ c. search needs)
+    (λ c κs. search needs)
+    (λ c. search needs)
     returns)

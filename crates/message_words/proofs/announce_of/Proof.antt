@@ -9,63 +9,6 @@ use borrow.Author.Needs.{needs}
 use Rattle.message_words.proofs.announce_of.Statement.{statement}
 use Rattle.message_words.proofs.announce_of.Tie as tie
 
-stamp-of-requires : tie.Need-stamp-of-requires
-stamp-of-requires c κs = search needs
-
-element-copy-out-signed16 : tie.Need-element-copy-out-signed16
-element-copy-out-signed16 c = search needs
-
-cast-signed16 : tie.Need-cast-signed16
-cast-signed16 c = search needs
-
-signed16-requires : tie.Need-signed16-requires
-signed16-requires c κs = search needs
-
-element-copy-out-t11 : tie.Need-element-copy-out-t11
-element-copy-out-t11 c = search needs
-
-cast-t13 : tie.Need-cast-t13
-cast-t13 c = search needs
-
-element-copy-out-t16 : tie.Need-element-copy-out-t16
-element-copy-out-t16 c = search needs
-
-cast-t18 : tie.Need-cast-t18
-cast-t18 c = search needs
-
-element-copy-out-t21 : tie.Need-element-copy-out-t21
-element-copy-out-t21 c = search needs
-
-cast-t23 : tie.Need-cast-t23
-cast-t23 c = search needs
-
-element-copy-out-t26 : tie.Need-element-copy-out-t26
-element-copy-out-t26 c = search needs
-
-cast-t28 : tie.Need-cast-t28
-cast-t28 c = search needs
-
-element-copy-out-t31 : tie.Need-element-copy-out-t31
-element-copy-out-t31 c = search needs
-
-cast-t33 : tie.Need-cast-t33
-cast-t33 c = search needs
-
-element-copy-out-t36 : tie.Need-element-copy-out-t36
-element-copy-out-t36 c = search needs
-
-element-copy-out-t39 : tie.Need-element-copy-out-t39
-element-copy-out-t39 c = search needs
-
-cast-t41 : tie.Need-cast-t41
-cast-t41 c = search needs
-
-element-copy-out-t44 : tie.Need-element-copy-out-t44
-element-copy-out-t44 c = search needs
-
-cast-t46 : tie.Need-cast-t46
-cast-t46 c = search needs
-
 returns : tie.Need-returns
 unfolding announceOf
 returns c =
@@ -89,23 +32,23 @@ pub announce-of-spec : {M : Type 1} → statement M
 announce-of-spec =
     tie.close
     (tie.spec
-    stamp-of-requires
-    element-copy-out-signed16
-    cast-signed16
-    signed16-requires
-    element-copy-out-t11
-    cast-t13
-    element-copy-out-t16
-    cast-t18
-    element-copy-out-t21
-    cast-t23
-    element-copy-out-t26
-    cast-t28
-    element-copy-out-t31
-    cast-t33
-    element-copy-out-t36
-    element-copy-out-t39
-    cast-t41
-    element-copy-out-t44
-    cast-t46
+    (λ c κs. search needs)
+    (λ c. search needs)
+    (λ c. search needs)
+    (λ c κs. search needs)
+    (λ c. search needs)
+    (λ c. search needs)
+    (λ c. search needs)
+    (λ c. search needs)
+    (λ c. search needs)
+    (λ c. search needs)
+    (λ c. search needs)
+    (λ c. search needs)
+    (λ c. search needs)
+    (λ c. search needs)
+    (λ c. search needs)
+    (λ c. search needs)
+    (λ c. search needs)
+    (λ c. search needs)
+    (λ c. search needs)
     returns)

@@ -19,27 +19,6 @@ steps-fits c = search needs
 source-fits : (c : tie.Start) → c .args .a .timesource < 256
 source-fits c = search needs
 
-word-of-i16-requires : tie.Need-word-of-i16-requires
-word-of-i16-requires c κs = search needs
-
-cast-t4 : tie.Need-cast-t4
-cast-t4 c = search needs
-
-cast-t5 : tie.Need-cast-t5
-cast-t5 c = search needs
-
-cast-t6 : tie.Need-cast-t6
-cast-t6 c = search needs
-
-cast-t7 : tie.Need-cast-t7
-cast-t7 c = search needs
-
-cast-t8 : tie.Need-cast-t8
-cast-t8 c = search needs
-
-cast-t9 : tie.Need-cast-t9
-cast-t9 c = search needs
-
 cast-t10 : tie.Need-cast-t10
 cast-t10 c = omega (arith, steps-fits (c .before .before .before .before .before .before .before .before .before .before))
 
@@ -69,13 +48,13 @@ pub announce-words-spec : {M : Type 1} → statement M
 announce-words-spec =
     tie.close
     (tie.spec
-    word-of-i16-requires
-    cast-t4
-    cast-t5
-    cast-t6
-    cast-t7
-    cast-t8
-    cast-t9
+    (λ c κs. search needs)
+    (λ c. search needs)
+    (λ c. search needs)
+    (λ c. search needs)
+    (λ c. search needs)
+    (λ c. search needs)
+    (λ c. search needs)
     cast-t10
     cast-t11
     returns)

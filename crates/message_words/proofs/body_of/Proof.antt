@@ -7,30 +7,6 @@ use borrow.Author.Needs.{needs}
 use Rattle.message_words.proofs.body_of.Statement.{statement}
 use Rattle.message_words.proofs.body_of.Tie as tie
 
-element-copy-out-kind : tie.Need-element-copy-out-kind
-element-copy-out-kind c = search needs
-
-stamp-of-requires : tie.Need-stamp-of-requires
-stamp-of-requires c κs = search needs
-
-stamp-of-requires-2 : tie.Need-stamp-of-requires-2
-stamp-of-requires-2 c κs = search needs
-
-stamp-of-requires-3 : tie.Need-stamp-of-requires-3
-stamp-of-requires-3 c κs = search needs
-
-stamp-of-requires-4 : tie.Need-stamp-of-requires-4
-stamp-of-requires-4 c κs = search needs
-
-identity-at-requires : tie.Need-identity-at-requires
-identity-at-requires c κs = search needs
-
-announce-of-requires : tie.Need-announce-of-requires
-announce-of-requires c κs = search needs
-
-identity-at-requires-2 : tie.Need-identity-at-requires-2
-identity-at-requires-2 c κs = search needs
-
 returns : tie.Need-returns
 unfolding bodyOf
 returns c = rw (c .before .match .keys1) (ap body.Sync (c .stamp-of .ensures))
@@ -61,14 +37,14 @@ pub body-of-spec : {M : Type 1} → statement M
 body-of-spec =
     tie.close
     (tie.spec
-    element-copy-out-kind
-    stamp-of-requires
-    stamp-of-requires-2
-    stamp-of-requires-3
-    stamp-of-requires-4
-    identity-at-requires
-    announce-of-requires
-    identity-at-requires-2
+    (λ c. search needs)
+    (λ c κs. search needs)
+    (λ c κs. search needs)
+    (λ c κs. search needs)
+    (λ c κs. search needs)
+    (λ c κs. search needs)
+    (λ c κs. search needs)
+    (λ c κs. search needs)
     returns
     returns-2
     returns-3

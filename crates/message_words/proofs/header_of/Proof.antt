@@ -9,48 +9,6 @@ use borrow.Author.Needs.{needs}
 use Rattle.message_words.proofs.header_of.Statement.{statement}
 use Rattle.message_words.proofs.header_of.Tie as tie
 
-element-copy-out-t4 : tie.Need-element-copy-out-t4
-element-copy-out-t4 c = search needs
-
-cast-t6 : tie.Need-cast-t6
-cast-t6 c = search needs
-
-element-copy-out-t9 : tie.Need-element-copy-out-t9
-element-copy-out-t9 c = search needs
-
-cast-t11 : tie.Need-cast-t11
-cast-t11 c = search needs
-
-element-copy-out-t14 : tie.Need-element-copy-out-t14
-element-copy-out-t14 c = search needs
-
-cast-t16 : tie.Need-cast-t16
-cast-t16 c = search needs
-
-element-copy-out-signed64 : tie.Need-element-copy-out-signed64
-element-copy-out-signed64 c = search needs
-
-signed64-requires : tie.Need-signed64-requires
-signed64-requires c κs = search needs
-
-identity-at-requires : tie.Need-identity-at-requires
-identity-at-requires c κs = search needs
-
-element-copy-out-t24 : tie.Need-element-copy-out-t24
-element-copy-out-t24 c = search needs
-
-cast-t26 : tie.Need-cast-t26
-cast-t26 c = search needs
-
-element-copy-out-signed8 : tie.Need-element-copy-out-signed8
-element-copy-out-signed8 c = search needs
-
-cast-signed8 : tie.Need-cast-signed8
-cast-signed8 c = search needs
-
-signed8-requires : tie.Need-signed8-requires
-signed8-requires c κs = search needs
-
 returns : tie.Need-returns
 unfolding headerOf
 returns c =
@@ -71,18 +29,18 @@ pub header-of-spec : {M : Type 1} → statement M
 header-of-spec =
     tie.close
     (tie.spec
-    element-copy-out-t4
-    cast-t6
-    element-copy-out-t9
-    cast-t11
-    element-copy-out-t14
-    cast-t16
-    element-copy-out-signed64
-    signed64-requires
-    identity-at-requires
-    element-copy-out-t24
-    cast-t26
-    element-copy-out-signed8
-    cast-signed8
-    signed8-requires
+    (λ c. search needs)
+    (λ c. search needs)
+    (λ c. search needs)
+    (λ c. search needs)
+    (λ c. search needs)
+    (λ c. search needs)
+    (λ c. search needs)
+    (λ c κs. search needs)
+    (λ c κs. search needs)
+    (λ c. search needs)
+    (λ c. search needs)
+    (λ c. search needs)
+    (λ c. search needs)
+    (λ c κs. search needs)
     returns)

@@ -10,33 +10,6 @@ use Rattle.message_words.proofs.is_whole.Tie as tie
 size : (c : tie.After-all) → length (c .before .before .args .w .now) ≡ 20
 size c = search needs
 
-header-fits-requires : tie.Need-header-fits-requires
-header-fits-requires c κs = search needs
-
-shared-slice-read-kind : tie.Need-shared-slice-read-kind
-shared-slice-read-kind c = search needs
-
-stamp-fits-requires : tie.Need-stamp-fits-requires
-stamp-fits-requires c κs = search needs
-
-stamp-fits-requires-2 : tie.Need-stamp-fits-requires-2
-stamp-fits-requires-2 c κs = search needs
-
-stamp-fits-requires-3 : tie.Need-stamp-fits-requires-3
-stamp-fits-requires-3 c κs = search needs
-
-stamp-fits-requires-4 : tie.Need-stamp-fits-requires-4
-stamp-fits-requires-4 c κs = search needs
-
-element-copy-out-result : tie.Need-element-copy-out-result
-element-copy-out-result c = search needs
-
-announce-fits-requires : tie.Need-announce-fits-requires
-announce-fits-requires c κs = search needs
-
-element-copy-out-result-2 : tie.Need-element-copy-out-result-2
-element-copy-out-result-2 c = search needs
-
 returns : tie.Need-returns
 returns c =
     let m = c .before in
@@ -91,15 +64,15 @@ pub is-whole-spec : {M : Type 1} → statement M
 is-whole-spec =
     tie.close
     (tie.spec
-    header-fits-requires
-    shared-slice-read-kind
-    stamp-fits-requires
-    stamp-fits-requires-2
-    stamp-fits-requires-3
-    stamp-fits-requires-4
-    element-copy-out-result
-    announce-fits-requires
-    element-copy-out-result-2
+    (λ c κs. search needs)
+    (λ c. search needs)
+    (λ c κs. search needs)
+    (λ c κs. search needs)
+    (λ c κs. search needs)
+    (λ c κs. search needs)
+    (λ c. search needs)
+    (λ c κs. search needs)
+    (λ c. search needs)
     returns
     returns-2
     returns-3

@@ -7,14 +7,8 @@ use borrow.Author.Needs.{needs}
 use Rattle.octets.proofs.i8_at.Statement.{statement}
 use Rattle.octets.proofs.i8_at.Tie as tie
 
-octet-at-requires : tie.Need-octet-at-requires
-octet-at-requires c κs = search needs
-
-signed8-requires : tie.Need-signed8-requires
-signed8-requires c κs = search needs
-
 returns : tie.Need-returns
 returns c = toZ-ofZ w8 _ (record { sfits = c .signed8 .ok }) ∙ c .signed8 .ensures ∙ ap (toZ w8) (c .before .octet-at .ensures)
 
 pub i8-at-spec : {M : Type 1} → statement M
-i8-at-spec = tie.close (tie.spec octet-at-requires signed8-requires returns)
+i8-at-spec = tie.close (tie.spec (λ c κs. search needs) (λ c κs. search needs) returns)

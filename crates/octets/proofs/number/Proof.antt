@@ -30,12 +30,6 @@ loop-holds c = (search needs, refl)
 mul-v : tie.Need-mul-v Inv-loop μ-loop
 mul-v c = omega (arith, small c)
 
-octet-behind-requires : tie.Need-octet-behind-requires Inv-loop μ-loop
-octet-behind-requires c κs = search needs
-
-wide-requires : tie.Need-wide-requires Inv-loop μ-loop
-wide-requires c κs = search needs
-
 add-v : tie.Need-add-v Inv-loop μ-loop
 add-v c =
     let b = c .before .before in
@@ -63,8 +57,8 @@ number-spec =
     μ-loop
     loop-holds
     mul-v
-    octet-behind-requires
-    wide-requires
+    (λ c κs. search needs)
+    (λ c κs. search needs)
     add-v
     add-i
     loop-less

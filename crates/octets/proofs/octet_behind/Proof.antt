@@ -7,18 +7,6 @@ use borrow.Author.Needs.{needs}
 use Rattle.octets.proofs.octet_behind.Statement.{statement}
 use Rattle.octets.proofs.octet_behind.Tie as tie
 
-sub-if2 : tie.Need-sub-if2
-sub-if2 c = search needs
-
-add-result : tie.Need-add-result
-add-result c = search needs
-
-shared-slice-read-result : tie.Need-shared-slice-read-result
-shared-slice-read-result c = search needs
-
-returns : tie.Need-returns
-returns c = search needs
-
 returns-2 : tie.Need-returns-2
 returns-2 c =
     let a = c .before .before .args in
@@ -33,4 +21,4 @@ returns-3 c =
 
 pub octet-behind-spec : {M : Type 1} → statement M
 octet-behind-spec =
-    tie.close (tie.spec sub-if2 add-result shared-slice-read-result returns returns-2 returns-3)
+    tie.close (tie.spec (λ c. search needs) (λ c. search needs) (λ c. search needs) (λ c. search needs) returns-2 returns-3)

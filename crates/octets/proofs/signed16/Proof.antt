@@ -13,24 +13,12 @@ use Rattle.octets.proofs.signed16.Tie as tie
 same : (c : tie.Else1) → negsuc 0 -ℤ toZ w16 (65535 - c .before .args .v) ≡ toZ w16 (c .before .args .v)
 same c = high w16 65535 refl (c .before .args .v) (c .if1 .left) (c .before .fits .v)
 
-cast-result : tie.Need-cast-result
-cast-result c = search needs
-
-sub-result : tie.Need-sub-result
-sub-result c = search needs
-
-cast-result-2 : tie.Need-cast-result-2
-cast-result-2 c = search needs
-
 sub-result-2 : tie.Need-sub-result-2
 sub-result-2 c = subst (SFits w16) (sym (same c)) (toZ-fits w16 (c .before .args .v) (c .before .fits .v))
-
-returns : tie.Need-returns
-returns c = search needs
 
 returns-2 : tie.Need-returns-2
 returns-2 c = toZ-ofZ w16 _ (sub-result-2 c) ∙ same c
 
 pub signed16-spec : {M : Type 1} → statement M
 signed16-spec =
-    tie.close (tie.spec cast-result sub-result cast-result-2 sub-result-2 returns returns-2)
+    tie.close (tie.spec (λ c. search needs) (λ c. search needs) (λ c. search needs) sub-result-2 (λ c. search needs) returns-2)

@@ -5,16 +5,10 @@ use borrow.Author.Needs.{needs}
 use Rattle.octets.proofs.u16_at.Statement.{statement}
 use Rattle.octets.proofs.u16_at.Tie as tie
 
-number-requires : tie.Need-number-requires
-number-requires c κs = search needs
-
 cast-result : tie.Need-cast-result
 cast-result c =
     let s = c .before .before in
     omega (arith, be-bound 2 (s .args .s .now) (s .args .at) (λ k. c .before .shared-slice-known .given k .fits), c .number .ensures)
 
-returns : tie.Need-returns
-returns c = search needs
-
 pub u16-at-spec : {M : Type 1} → statement M
-u16-at-spec = tie.close (tie.spec number-requires cast-result returns)
+u16-at-spec = tie.close (tie.spec (λ c κs. search needs) cast-result (λ c. search needs))

@@ -8,15 +8,6 @@ use borrow.Author.Needs.{needs}
 use Rattle.origin.proofs.follow_says.Statement.{statement}
 use Rattle.origin.proofs.follow_says.Tie as tie
 
-takes-requires : tie.Need-takes-requires
-takes-requires c κs = search needs
-
-enum-known-x : tie.Need-enum-known-x
-enum-known-x c = search needs
-
-enum-told : tie.Need-enum-told
-enum-told c = search needs
-
 is-of-requires : tie.Need-is-of-requires
 is-of-requires c κs = let k = c .before .before in (k .before .before .before .pre, omega (arith, taken _ _ _ (sym (k .takes .ensures) ∙ c .enum-told .given .1) .fixed))
 
@@ -35,4 +26,4 @@ returns-3 c = let i = c .before in let e = i .before in rw (← e .before .befor
 pub follow-says-spec : {M : Type 1} → statement M
 follow-says-spec =
     tie.close
-    (tie.spec takes-requires enum-known-x enum-told is-of-requires returns returns-2 returns-3)
+    (tie.spec (λ c κs. search needs) (λ c. search needs) (λ c. search needs) is-of-requires returns returns-2 returns-3)

@@ -4,15 +4,9 @@ use borrow.Author.Needs.{needs}
 use Rattle.origin.proofs.is_of.Statement.{statement}
 use Rattle.origin.proofs.is_of.Tie as tie
 
-header-of-requires : tie.Need-header-of-requires
-header-of-requires c κs = search needs
-
-header-of-requires-2 : tie.Need-header-of-requires-2
-header-of-requires-2 c κs = search needs
-
 returns : tie.Need-returns
 unfolding follows
 returns c = let b = c .before .before .before .before .before .before .before .before .before .before in let a = b .before in rw (← a .header-of .ensures, ← b .header-of2 .ensures)
 
 pub is-of-spec : {M : Type 1} → statement M
-is-of-spec = tie.close (tie.spec header-of-requires header-of-requires-2 returns)
+is-of-spec = tie.close (tie.spec (λ c κs. search needs) (λ c κs. search needs) returns)

@@ -11,18 +11,6 @@ use Rattle.origin.proofs.origin.Tie as tie
 says : (c : tie.After-enum-told2) → let a = c .before .before .before .before .before .args in originCheck (a .magic) (a .sync .now) (a .follow .now) ≡ Done
 says c = sym (c .before .before .origin-says .ensures) ∙ c .enum-told2 .given .1
 
-origin-says-requires : tie.Need-origin-says-requires
-origin-says-requires c κs = search needs
-
-enum-told : tie.Need-enum-told
-enum-told c = search needs
-
-slice-aggregate-result : tie.Need-slice-aggregate-result
-slice-aggregate-result c = search needs
-
-enum-told-2 : tie.Need-enum-told-2
-enum-told-2 c = search needs
-
 checked-origin-requires : tie.Need-checked-origin-requires
 checked-origin-requires c κs = origin-stamped _ _ _ (says c)
 
@@ -38,10 +26,10 @@ pub origin-spec : {M : Type 1} → statement M
 origin-spec =
     tie.close
     (tie.spec
-    origin-says-requires
-    enum-told
-    slice-aggregate-result
-    enum-told-2
+    (λ c κs. search needs)
+    (λ c. search needs)
+    (λ c. search needs)
+    (λ c. search needs)
     checked-origin-requires
     returns
     returns-2)

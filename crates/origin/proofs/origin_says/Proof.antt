@@ -7,15 +7,6 @@ use borrow.Author.Needs.{needs}
 use Rattle.origin.proofs.origin_says.Statement.{statement}
 use Rattle.origin.proofs.origin_says.Tie as tie
 
-takes-requires : tie.Need-takes-requires
-takes-requires c κs = search needs
-
-enum-known-x : tie.Need-enum-known-x
-enum-known-x c = search needs
-
-enum-told : tie.Need-enum-told
-enum-told c = search needs
-
 is-two-step-requires : tie.Need-is-two-step-requires
 is-two-step-requires c κs = let k = c .before .before in omega (arith, taken _ _ _ (sym (k .takes .ensures) ∙ c .enum-told .given .1) .fixed)
 
@@ -38,9 +29,9 @@ pub origin-says-spec : {M : Type 1} → statement M
 origin-says-spec =
     tie.close
     (tie.spec
-    takes-requires
-    enum-known-x
-    enum-told
+    (λ c κs. search needs)
+    (λ c. search needs)
+    (λ c. search needs)
     is-two-step-requires
     follow-says-requires
     returns

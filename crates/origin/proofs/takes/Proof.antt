@@ -9,15 +9,6 @@ use borrow.Author.Needs.{needs}
 use Rattle.origin.proofs.takes.Statement.{statement}
 use Rattle.origin.proofs.takes.Tie as tie
 
-check-requires : tie.Need-check-requires
-check-requires c κs = search needs
-
-enum-known-x : tie.Need-enum-known-x
-enum-known-x c = search needs
-
-enum-told : tie.Need-enum-told
-enum-told c = search needs
-
 shared-slice-read-if1 : tie.Need-shared-slice-read-if1
 shared-slice-read-if1 c = let e = c .before in let k = e .before .before in omega (arith, fixed-part _ _ (sym (k .check .ensures) ∙ e .enum-told .given .1) .0)
 
@@ -37,9 +28,9 @@ pub takes-spec : {M : Type 1} → statement M
 takes-spec =
     tie.close
     (tie.spec
-    check-requires
-    enum-known-x
-    enum-told
+    (λ c κs. search needs)
+    (λ c. search needs)
+    (λ c. search needs)
     shared-slice-read-if1
     returns
     returns-2

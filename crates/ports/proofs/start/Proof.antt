@@ -8,11 +8,8 @@ use Rattle.ports.proofs.start.Tie as tie
 sub-result : tie.Need-sub-result
 sub-result c = let b = port-bounds (c .args .port) (c .pre) in omega arith
 
-mul-result : tie.Need-mul-result
-mul-result c = search needs
-
 returns : tie.Need-returns
 returns c = let b = port-bounds (c .args .port) (c .pre) in omega arith
 
 pub start-spec : {M : Type 1} → statement M
-start-spec = tie.close (tie.spec sub-result mul-result returns)
+start-spec = tie.close (tie.spec sub-result (λ c. search needs) returns)

@@ -9,9 +9,6 @@ use Rattle.quotient.proofs.last.Tie as tie
 digit : (y p b r : ℕ) → y % 2 ≡ b → r ≡ b * p → r ≡ y % 2 * p
 digit y p b r e h = h ∙ sym (ap (λ (t : ℕ). t * p) e)
 
-add-if1 : tie.Need-add-if1
-add-if1 c = search needs
-
 returns : tie.Need-returns
 returns c = (digit (c .before .args .y) (c .before .args .p) 0 0 (omega arith) (omega arith), search needs)
 
@@ -20,4 +17,4 @@ returns-2 c =
     (digit (c .before .args .y) (c .before .args .p) 1 (c .before .args .p) (omega (arith, c .if1 .left)) (omega arith), search needs)
 
 pub last-spec : {M : Type 1} → statement M
-last-spec = tie.close (tie.spec add-if1 returns returns-2)
+last-spec = tie.close (tie.spec (λ c. search needs) returns returns-2)

@@ -40,9 +40,6 @@ sub-i c = omega arith
 shr-y : tie.Need-shr-y Inv-loop μ-loop
 shr-y c = omega arith
 
-last-requires : tie.Need-last-requires Inv-loop μ-loop
-last-requires c κs = search needs
-
 further-requires : tie.Need-further-requires Inv-loop μ-loop
 further-requires c κs =
     let a = c .before .before .before .args in
@@ -81,7 +78,7 @@ portion-spec =
     loop-holds
     sub-i
     shr-y
-    last-requires
+    (λ c κs. search needs)
     further-requires
     loop-less
     loop-again

@@ -43,12 +43,6 @@ match i j h = go (eqb (i .clock) (j .clock)) (eqb (i .port) (j .port)) h
     go true false e = sym e
     go false y e = sym e
 
-alike-requires : tie.Need-alike-requires
-alike-requires c κs = search needs
-
-outranks-requires : tie.Need-outranks-requires
-outranks-requires c κs = search needs
-
 returns : tie.Need-returns
 returns c =
     let t = c .before in
@@ -72,9 +66,6 @@ returns-2 c =
 past-steps : (c : tie.Else2)
     → let s = c .before .before .before .before .before .before .before .args in lex (sent (s .a)) (sent (s .b)) ≡ earlierOf (s .a) (s .b)
 past-steps c = to (past-grandmaster (c .before .before .before)) (simp (eq-eqb _ _ (c .if2 .left)))
-
-precedes-requires : tie.Need-precedes-requires
-precedes-requires c κs = search needs
 
 returns-3 : tie.Need-returns-3
 returns-3 c =
@@ -110,11 +101,11 @@ pub earlier-spec : {M : Type 1} → statement M
 earlier-spec =
     tie.close
     (tie.spec
-    alike-requires
-    outranks-requires
+    (λ c κs. search needs)
+    (λ c κs. search needs)
     returns
     returns-2
-    precedes-requires
+    (λ c κs. search needs)
     returns-3
     returns-4
     returns-5)

@@ -19,29 +19,14 @@ abbrev μ-loop : tie.MeasureT-loop
 slots : (c : tie.Start Inv-loop μ-loop) → length (c .args .t1 .slots) ≡ 4
 slots c = simp length-map at (c .good .0 .1 .1 .1 .0 .1 .0 .1)
 
-used-requires : tie.Need-used-requires Inv-loop μ-loop
-used-requires c κs = search needs
-
 loop-holds : tie.Need-loop-holds Inv-loop μ-loop
 loop-holds c = refl
-
-mul-x : tie.Need-mul-x Inv-loop μ-loop
-mul-x c = search needs
-
-element-copy-out-x : tie.Need-element-copy-out-x Inv-loop μ-loop
-element-copy-out-x c = search needs
 
 returns : tie.Need-returns Inv-loop μ-loop
 returns c =
     let l = c .before .before .before .before in
     let h = here (l .before .before .args .t1) (l .loop .i) blankOf (slots (l .before .before)) (omega (arith, l .before .used .ensures)) in
     simp (eq-eqb _ _ (c .if1 .taken)) at (rw h at (l .loop .inv))
-
-add-i : tie.Need-add-i Inv-loop μ-loop
-add-i c = search needs
-
-loop-less : tie.Need-loop-less Inv-loop μ-loop
-loop-less c = search needs
 
 loop-again : tie.Need-loop-again Inv-loop μ-loop
 loop-again c =
@@ -60,12 +45,12 @@ holds-spec =
     (tie.spec
     Inv-loop
     μ-loop
-    used-requires
+    (λ c κs. search needs)
     loop-holds
-    mul-x
-    element-copy-out-x
+    (λ c. search needs)
+    (λ c. search needs)
     returns
-    add-i
-    loop-less
+    (λ c. search needs)
+    (λ c. search needs)
     loop-again
     returns-2)

@@ -18,26 +18,8 @@ abbrev μ-loop : tie.MeasureT-loop
 size : (c : tie.Start Inv-loop μ-loop) → length (c .args .t2 .slots) ≡ 4
 size c = simp length-map at (c .good .1 .0 .1 .1 .1 .0 .1 .0 .1)
 
-used-requires : tie.Need-used-requires Inv-loop μ-loop
-used-requires c κs = search needs
-
 loop-holds : tie.Need-loop-holds Inv-loop μ-loop
 loop-holds c = refl
-
-mul-y : tie.Need-mul-y Inv-loop μ-loop
-mul-y c = search needs
-
-element-copy-out-y : tie.Need-element-copy-out-y Inv-loop μ-loop
-element-copy-out-y c = search needs
-
-insert-requires : tie.Need-insert-requires Inv-loop μ-loop
-insert-requires c κs = search needs
-
-add-i : tie.Need-add-i Inv-loop μ-loop
-add-i c = search needs
-
-loop-less : tie.Need-loop-less Inv-loop μ-loop
-loop-less c = search needs
 
 loop-again : tie.Need-loop-again Inv-loop μ-loop
 loop-again c =
@@ -56,12 +38,12 @@ insert-all-spec =
     (tie.spec
     Inv-loop
     μ-loop
-    used-requires
+    (λ c κs. search needs)
     loop-holds
-    mul-y
-    element-copy-out-y
-    insert-requires
-    add-i
-    loop-less
+    (λ c. search needs)
+    (λ c. search needs)
+    (λ c κs. search needs)
+    (λ c. search needs)
+    (λ c. search needs)
     loop-again
     returns)

@@ -68,29 +68,11 @@ returns c = simp (lt-leb _ _ (c .if1 .taken))
 loop-holds : tie.Need-loop-holds Inv-loop2 μ-loop2 Inv-loop μ-loop
 loop-holds c = simp (le-leb _ _ (c .if1 .left))
 
-mul-x : tie.Need-mul-x Inv-loop2 μ-loop2 Inv-loop μ-loop
-mul-x c = search needs
-
-element-copy-out-x : tie.Need-element-copy-out-x Inv-loop2 μ-loop2 Inv-loop μ-loop
-element-copy-out-x c = search needs
-
-is-port-requires : tie.Need-is-port-requires Inv-loop2 μ-loop2 Inv-loop μ-loop
-is-port-requires c κs = search needs
-
 returns-2 : tie.Need-returns-2 Inv-loop2 μ-loop2 Inv-loop μ-loop
 returns-2 c = rw (sym (c .before .is-port .ensures) ∙ not-true _ (c .if2 .taken)) at (turn (c .before .before .before))
 
-add-j : tie.Need-add-j Inv-loop2 μ-loop2 Inv-loop μ-loop
-add-j c = search needs
-
 loop2-holds : tie.Need-loop2-holds Inv-loop2 μ-loop2 Inv-loop μ-loop
 loop2-holds c = refl
-
-mul-z : tie.Need-mul-z Inv-loop2 μ-loop2 Inv-loop μ-loop
-mul-z c = search needs
-
-element-copy-out-z : tie.Need-element-copy-out-z Inv-loop2 μ-loop2 Inv-loop μ-loop
-element-copy-out-z c = search needs
 
 -- the later slots, from one that is looked at
 later : (c : tie.In-loop2 Inv-loop2 μ-loop2 Inv-loop μ-loop)
@@ -108,31 +90,10 @@ returns-3 c =
     let h = simp (eq-eqb _ _ (c .if3 .taken)) at (rw (later t) at (t .before .loop2 .inv)) in
     rw (sym h) at (ported (t .before .before))
 
-add-j-2 : tie.Need-add-j-2 Inv-loop2 μ-loop2 Inv-loop μ-loop
-add-j-2 c = search needs
-
-loop2-less : tie.Need-loop2-less Inv-loop2 μ-loop2 Inv-loop μ-loop
-loop2-less c = search needs
-
 loop2-again : tie.Need-loop2-again Inv-loop2 μ-loop2 Inv-loop μ-loop
 loop2-again c =
     let t = c .before .before .before in
     simp (ne-eqb _ _ (c .if3 .left)) at (rw (later t) at (t .before .loop2 .inv))
-
-add-if4 : tie.Need-add-if4 Inv-loop2 μ-loop2 Inv-loop μ-loop
-add-if4 c = search needs
-
-add-y : tie.Need-add-y Inv-loop2 μ-loop2 Inv-loop μ-loop
-add-y c = search needs
-
-mul-y : tie.Need-mul-y Inv-loop2 μ-loop2 Inv-loop μ-loop
-mul-y c = search needs
-
-element-copy-out-y : tie.Need-element-copy-out-y Inv-loop2 μ-loop2 Inv-loop μ-loop
-element-copy-out-y c = search needs
-
-earlier-requires : tie.Need-earlier-requires Inv-loop2 μ-loop2 Inv-loop μ-loop
-earlier-requires c κs = search needs
 
 returns-4 : tie.Need-returns-4 Inv-loop2 μ-loop2 Inv-loop μ-loop
 returns-4 c =
@@ -155,12 +116,6 @@ led c =
     (λ w. rw (here (s .args .t1) (l .loop .i + 1) blankOf (size s) (omega (arith, w .0 .taken))) (sym (w .2 .ensures) ∙ not-false _ (w .3 .left)))
     (λ w. rw (none (s .args .t1) (l .loop .i + 1) (size s) (omega (arith, w .left))))
 
-add-i : tie.Need-add-i Inv-loop2 μ-loop2 Inv-loop μ-loop
-add-i c = search needs
-
-loop-less : tie.Need-loop-less Inv-loop2 μ-loop2 Inv-loop μ-loop
-loop-less c = search needs
-
 loop-again : tie.Need-loop-again Inv-loop2 μ-loop2 Inv-loop μ-loop
 loop-again c = rw (led c) at (alone (c .before))
 
@@ -179,25 +134,25 @@ is-ranked-spec =
     μ-loop
     returns
     loop-holds
-    mul-x
-    element-copy-out-x
-    is-port-requires
+    (λ c. search needs)
+    (λ c. search needs)
+    (λ c κs. search needs)
     returns-2
-    add-j
+    (λ c. search needs)
     loop2-holds
-    mul-z
-    element-copy-out-z
+    (λ c. search needs)
+    (λ c. search needs)
     returns-3
-    add-j-2
-    loop2-less
+    (λ c. search needs)
+    (λ c. search needs)
     loop2-again
-    add-if4
-    add-y
-    mul-y
-    element-copy-out-y
-    earlier-requires
+    (λ c. search needs)
+    (λ c. search needs)
+    (λ c. search needs)
+    (λ c. search needs)
+    (λ c κs. search needs)
     returns-4
-    add-i
-    loop-less
+    (λ c. search needs)
+    (λ c. search needs)
     loop-again
     returns-5)

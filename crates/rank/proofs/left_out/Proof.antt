@@ -7,14 +7,8 @@ use Rattle.rank.proofs.left_out.Tie as tie
 returns : tie.Need-returns
 returns c = rw (ne-eqb _ _ (c .if1 .taken))
 
-element-copy-out-y : tie.Need-element-copy-out-y
-element-copy-out-y c = search needs
-
-earlier-requires : tie.Need-earlier-requires
-earlier-requires c κs = search needs
-
 returns-2 : tie.Need-returns-2
 returns-2 c = rw (c .earlier .ensures, eq-eqb _ _ (c .before .before .if1 .left))
 
 pub left-out-spec : {M : Type 1} → statement M
-left-out-spec = tie.close (tie.spec returns element-copy-out-y earlier-requires returns-2)
+left-out-spec = tie.close (tie.spec returns (λ c. search needs) (λ c κs. search needs) returns-2)

@@ -15,24 +15,9 @@ tested : (c : tie.After-is-ranked2)
     → (isRanked (c .before .before .args .a) && isRanked (c .before .before .args .b)) ≡ (c .before .is-ranked .result && c .is-ranked2 .result)
 tested c = ap₂ _&&_ (sym (c .before .is-ranked .ensures)) (sym (c .is-ranked2 .ensures))
 
-is-ranked-requires : tie.Need-is-ranked-requires
-is-ranked-requires c κs = search needs
-
-is-ranked-requires-2 : tie.Need-is-ranked-requires-2
-is-ranked-requires-2 c κs = search needs
-
-refused-requires : tie.Need-refused-requires
-refused-requires c κs = search needs
-
 returns : tie.Need-returns
 unfolding refuse
 returns c = rw (c .refused .ensures, tested (c .before .before) ∙ not-true _ (c .before .if1 .taken))
-
-tidy-requires : tie.Need-tidy-requires
-tidy-requires c κs = search needs
-
-insert-all-requires : tie.Need-insert-all-requires
-insert-all-requires c κs = search needs
 
 returns-2 : tie.Need-returns-2
 unfolding refuse
@@ -52,10 +37,10 @@ pub merge-spec : {M : Type 1} → statement M
 merge-spec =
     tie.close
     (tie.spec
-    is-ranked-requires
-    is-ranked-requires-2
-    refused-requires
+    (λ c κs. search needs)
+    (λ c κs. search needs)
+    (λ c κs. search needs)
     returns
-    tidy-requires
-    insert-all-requires
+    (λ c κs. search needs)
+    (λ c κs. search needs)
     returns-2)

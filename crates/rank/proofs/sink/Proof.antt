@@ -11,20 +11,17 @@ use lib.Seq.{set-getD}
 use Rattle.rank.specs.declared.Candidate.{Candidate}
 use Rattle.rank.specs.Order.{earlierOf}
 use Rattle.rank.specs.Best.{sink}
-use Rattle.rank.specs.Ranked.{portOf, blankOf}
+use Rattle.rank.specs.Ranked.{receiverOf, blankOf}
 use Rattle.rank.proofs.Best.{either}
 use Rattle.rank.proofs.Sinking.{Down, stays, goes, down-on, down-spent, down-dropped, down-grown, to-spec}
 use Rattle.rank.proofs.sink.Statement.{statement}
 use Rattle.rank.proofs.sink.Tie as tie
 
 abbrev Inv-loop : tie.InvT-loop
-Inv-loop p n slots₀ x₀ i₀ slots x i = Down p n (sink earlierOf portOf p x₀ (take n slots₀)) slots₀ slots x i
+Inv-loop p n slots₀ x₀ i₀ slots x i = Down p n (sink earlierOf receiverOf p x₀ (take n slots₀)) slots₀ slots x i
 
 abbrev μ-loop : tie.MeasureT-loop
 μ-loop p n slots₀ x₀ i₀ slots x i = n - i
-
-used-requires : tie.Need-used-requires Inv-loop μ-loop
-used-requires c κs = search needs
 
 size : (c : tie.Start Inv-loop μ-loop) → length (c .args .r .slots) ≡ 4
 size c = simp length-map at (c .good .0 .1 .1 .1 .0 .1 .0 .1)
@@ -38,21 +35,6 @@ loop-holds c =
       past = refl;
       rest = refl;
     }
-
-mul-y : tie.Need-mul-y Inv-loop μ-loop
-mul-y c = search needs
-
-array-copy-out-y : tie.Need-array-copy-out-y Inv-loop μ-loop
-array-copy-out-y c = search needs
-
-earlier-requires : tie.Need-earlier-requires Inv-loop μ-loop
-earlier-requires c κs = search needs
-
-mul-slots : tie.Need-mul-slots Inv-loop μ-loop
-mul-slots c = search needs
-
-array-set-from-slots : tie.Need-array-set-from-slots Inv-loop μ-loop
-array-set-from-slots c = search needs
 
 -- after the swap: the earlier of the two stays, the other goes on
 turned : (c : tie.Joined1 Inv-loop μ-loop)
@@ -74,27 +56,12 @@ returns c =
     ∙ down-spent _ _ _ _ _ _ _ (l .loop .inv) blankOf (j .before .before .before .loop-test .taken) (eq-eqb _ _ (c .if2 .taken))
     ∙ to-spec _ _ _ (size (l .before .before .before)) (l .before .before .used .ensures)
 
-add-i : tie.Need-add-i Inv-loop μ-loop
-add-i c = search needs
-
-loop-less : tie.Need-loop-less Inv-loop μ-loop
-loop-less c = search needs
-
 loop-again : tie.Need-loop-again Inv-loop μ-loop
 loop-again c =
     let j = c .before .before in
     let l = j .before .before .before .before in
     rw (turned j .0, turned j .1)
     (down-on _ _ _ _ _ _ _ (l .loop .inv) blankOf (j .before .before .before .loop-test .taken) (ne-eqb _ _ (c .if2 .left)))
-
-mul-slots-2 : tie.Need-mul-slots-2 Inv-loop μ-loop
-mul-slots-2 c = search needs
-
-array-set-from-slots-2 : tie.Need-array-set-from-slots-2 Inv-loop μ-loop
-array-set-from-slots-2 c = search needs
-
-add-t20 : tie.Need-add-t20 Inv-loop μ-loop
-add-t20 c = search needs
 
 returns-2 : tie.Need-returns-2 Inv-loop μ-loop
 returns-2 c =
@@ -114,19 +81,19 @@ sink-spec =
     (tie.spec
     Inv-loop
     μ-loop
-    used-requires
+    (λ c κs. search needs)
     loop-holds
-    mul-y
-    array-copy-out-y
-    earlier-requires
-    mul-slots
-    array-set-from-slots
+    (λ c. search needs)
+    (λ c. search needs)
+    (λ c κs. search needs)
+    (λ c. search needs)
+    (λ c. search needs)
     returns
-    add-i
-    loop-less
+    (λ c. search needs)
+    (λ c. search needs)
     loop-again
-    mul-slots-2
-    array-set-from-slots-2
-    add-t20
+    (λ c. search needs)
+    (λ c. search needs)
+    (λ c. search needs)
     returns-2
     returns-3)

@@ -5,19 +5,13 @@ use Rattle.refusal.specs.Choice.{refuse}
 use Rattle.rank.proofs.start.Statement.{statement}
 use Rattle.rank.proofs.start.Tie as tie
 
-refused-requires : tie.Need-refused-requires
-refused-requires c κs = search needs
-
 returns : tie.Need-returns
 unfolding refuse
 returns c = rw (c .refused .ensures) (simp (lt-ltb 288 _ (c .before .if1 .taken)))
-
-empty-requires : tie.Need-empty-requires
-empty-requires c κs = search needs
 
 returns-2 : tie.Need-returns-2
 unfolding refuse
 returns-2 c = rw (c .empty .ensures) (simp (le-ltb 288 _ (c .before .if1 .left)))
 
 pub start-spec : {M : Type 1} → statement M
-start-spec = tie.close (tie.spec refused-requires returns empty-requires returns-2)
+start-spec = tie.close (tie.spec (λ c κs. search needs) returns (λ c κs. search needs) returns-2)

@@ -5,11 +5,8 @@ use borrow.Author.Needs.{needs}
 use Rattle.senders.proofs.is_free.Statement.{statement}
 use Rattle.senders.proofs.is_free.Tie as tie
 
-is-live-requires : tie.Need-is-live-requires
-is-live-requires c κs = search needs
-
 returns : tie.Need-returns
 returns c = ap not (c .is-live .ensures)
 
 pub is-free-spec : {M : Type 1} → statement M
-is-free-spec = tie.close (tie.spec is-live-requires returns)
+is-free-spec = tie.close (tie.spec (λ c κs. search needs) returns)

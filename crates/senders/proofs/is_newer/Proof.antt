@@ -6,9 +6,6 @@ use borrow.Author.Needs.{needs}
 use Rattle.senders.proofs.is_newer.Statement.{statement}
 use Rattle.senders.proofs.is_newer.Tie as tie
 
-wrapping-sub-u16-requires : tie.Need-wrapping-sub-u16-requires
-wrapping-sub-u16-requires c κs = search needs
-
 returns : tie.Need-returns
 returns c =
     let a = c .before .args in
@@ -16,4 +13,4 @@ returns c =
     rw d
 
 pub is-newer-spec : {M : Type 1} → statement M
-is-newer-spec = tie.close (tie.spec wrapping-sub-u16-requires returns)
+is-newer-spec = tie.close (tie.spec (λ c κs. search needs) returns)

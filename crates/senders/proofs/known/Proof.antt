@@ -6,20 +6,8 @@ use borrow.Author.Needs.{needs}
 use Rattle.senders.proofs.known.Statement.{statement}
 use Rattle.senders.proofs.known.Tie as tie
 
-is-live-requires : tie.Need-is-live-requires
-is-live-requires c κs = search needs
-
-fresh-requires : tie.Need-fresh-requires
-fresh-requires c κs = search needs
-
 returns : tie.Need-returns
 returns c = rw (sym (c .before .before .is-live .ensures) ∙ not-true _ (c .before .if1 .taken), c .fresh .ensures)
-
-is-newer-requires : tie.Need-is-newer-requires
-is-newer-requires c κs = search needs
-
-next-requires : tie.Need-next-requires
-next-requires c κs = search needs
 
 returns-2 : tie.Need-returns-2
 unfolding refuse
@@ -38,10 +26,10 @@ pub known-spec : {M : Type 1} → statement M
 known-spec =
     tie.close
     (tie.spec
-    is-live-requires
-    fresh-requires
+    (λ c κs. search needs)
+    (λ c κs. search needs)
     returns
-    is-newer-requires
-    next-requires
+    (λ c κs. search needs)
+    (λ c κs. search needs)
     returns-2
     returns-3)

@@ -5,9 +5,6 @@ use borrow.Author.Needs.{needs}
 use Rattle.senders.proofs.unknown.Statement.{statement}
 use Rattle.senders.proofs.unknown.Tie as tie
 
-fresh-requires : tie.Need-fresh-requires
-fresh-requires c κs = search needs
-
 returns : tie.Need-returns
 unfolding refuse
 returns c = rw (lt-ltb _ _ (c .before .if1 .taken), c .fresh .ensures)
@@ -17,4 +14,4 @@ unfolding refuse
 returns-2 c = rw (le-ltb _ _ (c .if1 .left))
 
 pub unknown-spec : {M : Type 1} → statement M
-unknown-spec = tie.close (tie.spec fresh-requires returns returns-2)
+unknown-spec = tie.close (tie.spec (λ c κs. search needs) returns returns-2)

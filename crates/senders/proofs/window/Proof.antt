@@ -6,12 +6,6 @@ use borrow.Author.Needs.{needs}
 use Rattle.senders.proofs.window.Statement.{statement}
 use Rattle.senders.proofs.window.Tie as tie
 
-add-n : tie.Need-add-n
-add-n c = search needs
-
-shl-result : tie.Need-shl-result
-shl-result c = search needs
-
 returns : tie.Need-returns
 returns c =
     let n = (c .args .e % 8 + 3) % 8 in
@@ -21,4 +15,4 @@ returns c =
     omega arith
 
 pub window-spec : {M : Type 1} → statement M
-window-spec = tie.close (tie.spec add-n shl-result returns)
+window-spec = tie.close (tie.spec (λ c. search needs) (λ c. search needs) returns)

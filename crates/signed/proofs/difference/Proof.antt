@@ -6,12 +6,6 @@ use Rattle.signed.proofs.Ranges.{difference-fits}
 use Rattle.signed.proofs.difference.Statement.{statement}
 use Rattle.signed.proofs.difference.Tie as tie
 
-cast-result : tie.Need-cast-result
-cast-result c = search needs
-
-cast-result-2 : tie.Need-cast-result-2
-cast-result-2 c = search needs
-
 sub-result : tie.Need-sub-result
 sub-result c = rw (toZ-pos w64 (c .pre .0), toZ-pos w64 (c .pre .1)) (difference-fits _ _ (c .pre .0) (c .pre .1))
 
@@ -19,4 +13,4 @@ returns : tie.Need-returns
 returns c = simp (toZ-pos w64 (c .pre .0), toZ-pos w64 (c .pre .1), toZ-ofZ (difference-fits _ _ (c .pre .0) (c .pre .1)))
 
 pub difference-spec : {M : Type 1} → statement M
-difference-spec = tie.close (tie.spec cast-result cast-result-2 sub-result returns)
+difference-spec = tie.close (tie.spec (λ c. search needs) (λ c. search needs) sub-result returns)

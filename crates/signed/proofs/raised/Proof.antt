@@ -31,9 +31,6 @@ module _ (c : tie.Start) where
       let r = raisable-told (c .args .x) (c .args .b) (c .pre) in
       omega (arith, add-law (c .args .x) (pos (c .args .b)))
 
-cast-result : tie.Need-cast-result
-cast-result c = search needs
-
 add-result : tie.Need-add-result
 add-result c = rw (toZ-ofZ (c .fits .x), toZ-pos w64 (small c)) (fits c)
 
@@ -44,4 +41,4 @@ returns : tie.Need-returns
 returns c = simp (toZ-ofZ (c .fits .x), toZ-pos w64 (small c), toZ-ofZ (fits c)) (sym (natAbs-of (sum c) (high c)))
 
 pub raised-spec : {M : Type 1} → statement M
-raised-spec = tie.close (tie.spec cast-result add-result cast-result-2 returns)
+raised-spec = tie.close (tie.spec (λ c. search needs) add-result cast-result-2 returns)

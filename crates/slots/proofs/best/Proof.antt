@@ -18,28 +18,10 @@ found s port =
     ap (candidateAt port (g .ws .now)) (s .best-slot .ensures)
     ∙ best-among port (g .ws .now) (λ i. k .shared-slice-known3 .given i .fits) (s .before .window .result) (g .t) 16 (omega arith)
 
-shared-slice-read-if1 : tie.Need-shared-slice-read-if1
-shared-slice-read-if1 c = search needs
-
 returns : tie.Need-returns
 returns c =
     let g = c .before .before .before .args in
     ask-backward (portOf (g .ws .now)) (g .t) _ (c .if1 .taken)
-
-shared-slice-read-window : tie.Need-shared-slice-read-window
-shared-slice-read-window c = search needs
-
-window-requires : tie.Need-window-requires
-window-requires c κs = search needs
-
-best-slot-requires : tie.Need-best-slot-requires
-best-slot-requires c κs = search needs
-
-load-requires : tie.Need-load-requires
-load-requires c κs = search needs
-
-candidate-requires : tie.Need-candidate-requires
-candidate-requires c κs = search needs
 
 returns-2 : tie.Need-returns-2
 returns-2 c =
@@ -62,12 +44,12 @@ pub best-spec : {M : Type 1} → statement M
 best-spec =
     tie.close
     (tie.spec
-    shared-slice-read-if1
+    (λ c. search needs)
     returns
-    shared-slice-read-window
-    window-requires
-    best-slot-requires
-    load-requires
-    candidate-requires
+    (λ c. search needs)
+    (λ c κs. search needs)
+    (λ c κs. search needs)
+    (λ c κs. search needs)
+    (λ c κs. search needs)
     returns-2
     returns-3)

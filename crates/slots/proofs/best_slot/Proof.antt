@@ -6,51 +6,45 @@ use Rattle.refusal.specs.Choice.{pick}
 use borrow.Author.Needs.{needs}
 use Rattle.slots.specs.Words.{outdoesIn}
 use Rattle.slots.specs.Places.{slotAmong}
+use Rattle.slots.proofs.Window.{slot-since}
 use Rattle.slots.proofs.best_slot.Statement.{statement}
 use Rattle.slots.proofs.best_slot.Tie as tie
 
 abbrev Inv-loop : tie.InvT-loop
-Inv-loop ws w t b₀ i₀ b i = (i ≤ 16) × (b ≡ slotAmong ws w t (16 - i))
+Inv-loop ws w t begin b₀ i₀ b i = (i ≤ 16) × (b ≡ slotAmong ws 0 begin (16 - i))
 
 abbrev μ-loop : tie.MeasureT-loop
-μ-loop ws w t b₀ i₀ b i = i
+μ-loop ws w t begin b₀ i₀ b i = i
 
 -- one slot more: the one that is held after it
 turned : (c : tie.After-outdoes Inv-loop μ-loop)
     → let l = c .before .before in
-    let g = l .before .before .args in
-    pick (c .outdoes .result) (l .loop .i - 1) (l .loop .b) ≡ slotAmong (g .ws .now) (g .w) (g .t) (16 - (l .loop .i - 1))
+    let k = l .before in
+    pick (c .outdoes .result) (l .loop .i - 1) (l .loop .b) ≡ slotAmong (k .before .before .args .ws .now) 0 (k .since .result) (16 - (l .loop .i - 1))
 unfolding slotAmong
 turned c =
     let l = c .before .before in
-    let g = l .before .before .args in
+    let k = l .before in
+    let ws = k .before .before .args .ws .now in
+    let from = k .since .result in
     let i = l .loop .i - 1 in
     let n = 16 - l .loop .i in
     let e : i ≡ 15 - n = omega arith in
     let f : 16 - i ≡ suc n = omega arith in
     ap (λ (o : _). pick o i (l .loop .b)) (c .outdoes .ensures)
-    ∙ ap (λ (b : ℕ). pick (outdoesIn (g .ws .now) i b (g .w) (g .t)) i b) (l .loop .inv .1)
-    ∙ ap (λ (k : ℕ). pick (outdoesIn (g .ws .now) k (slotAmong (g .ws .now) (g .w) (g .t) n) (g .w) (g .t)) k (slotAmong (g .ws .now) (g .w) (g .t) n)) e
-    ∙ sym (ap (slotAmong (g .ws .now) (g .w) (g .t)) f)
+    ∙ ap (λ (b : ℕ). pick (outdoesIn ws i b 0 from) i b) (l .loop .inv .1)
+    ∙ ap (λ (k : ℕ). pick (outdoesIn ws k (slotAmong ws 0 from n) 0 from) k (slotAmong ws 0 from n)) e
+    ∙ sym (ap (slotAmong ws 0 from) f)
+
+since-requires : tie.Need-since-requires Inv-loop μ-loop
+since-requires c κs = search needs
 
 loop-holds : tie.Need-loop-holds Inv-loop μ-loop
 unfolding slotAmong
 loop-holds c = search needs
 
-sub-i : tie.Need-sub-i Inv-loop μ-loop
-sub-i c = search needs
-
-outdoes-requires : tie.Need-outdoes-requires Inv-loop μ-loop
-outdoes-requires c κs = search needs
-
-loop-less : tie.Need-loop-less Inv-loop μ-loop
-loop-less c = search needs
-
 loop-again : tie.Need-loop-again Inv-loop μ-loop
 loop-again c = (search needs, rw (c .if1 .taken) at (turned (c .before)))
-
-loop-less-2 : tie.Need-loop-less-2 Inv-loop μ-loop
-loop-less-2 c = search needs
 
 loop-again-2 : tie.Need-loop-again-2 Inv-loop μ-loop
 loop-again-2 c = (search needs, rw (c .if1 .left) at (turned (c .before)))
@@ -58,9 +52,14 @@ loop-again-2 c = (search needs, rw (c .if1 .left) at (turned (c .before)))
 returns : tie.Need-returns Inv-loop μ-loop
 returns c =
     let l = c .before in
-    let g = l .before .before .args in
+    let k = l .before in
+    let g = k .before .before .args in
+    let ws = g .ws .now in
     let e : 16 - l .loop .i ≡ 16 = omega arith in
-    l .loop .inv .1 ∙ ap (slotAmong (g .ws .now) (g .w) (g .t)) e
+    l .loop .inv .1
+    ∙ ap (slotAmong ws 0 (k .since .result)) e
+    ∙ ap (λ (from : ℕ). slotAmong ws 0 from 16) (k .since .ensures)
+    ∙ sym (slot-since ws (g .w) (g .t) 16)
 
 pub best-slot-spec : {M : Type 1} → statement M
 best-slot-spec =
@@ -68,11 +67,12 @@ best-slot-spec =
     (tie.spec
     Inv-loop
     μ-loop
+    since-requires
     loop-holds
-    sub-i
-    outdoes-requires
-    loop-less
+    (λ c. search needs)
+    (λ c κs. search needs)
+    (λ c. search needs)
     loop-again
-    loop-less-2
+    (λ c. search needs)
     loop-again-2
     returns)

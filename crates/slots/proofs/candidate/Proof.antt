@@ -6,28 +6,10 @@ use borrow.Author.Needs.{needs}
 use Rattle.slots.proofs.candidate.Statement.{statement}
 use Rattle.slots.proofs.candidate.Tie as tie
 
-shared-slice-read-if1 : tie.Need-shared-slice-read-if1
-shared-slice-read-if1 c = search needs
-
 returns : tie.Need-returns
 returns c =
     let g = c .before .before .before .args in
     ask-backward (portOf (g .ws .now)) (g .t) _ (c .if1 .taken)
-
-shared-slice-read-window : tie.Need-shared-slice-read-window
-shared-slice-read-window c = search needs
-
-window-requires : tie.Need-window-requires
-window-requires c κs = search needs
-
-load-requires : tie.Need-load-requires
-load-requires c κs = search needs
-
-is-qualified-requires : tie.Need-is-qualified-requires
-is-qualified-requires c κs = search needs
-
-candidate-requires : tie.Need-candidate-requires
-candidate-requires c κs = search needs
 
 returns-2 : tie.Need-returns-2
 returns-2 c =
@@ -60,13 +42,13 @@ pub candidate-spec : {M : Type 1} → statement M
 candidate-spec =
     tie.close
     (tie.spec
-    shared-slice-read-if1
+    (λ c. search needs)
     returns
-    shared-slice-read-window
-    window-requires
-    load-requires
-    is-qualified-requires
-    candidate-requires
+    (λ c. search needs)
+    (λ c κs. search needs)
+    (λ c κs. search needs)
+    (λ c κs. search needs)
+    (λ c κs. search needs)
     returns-2
     returns-3
     returns-4)

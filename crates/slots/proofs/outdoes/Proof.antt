@@ -5,19 +5,10 @@ use borrow.Author.Needs.{needs}
 use Rattle.slots.proofs.outdoes.Statement.{statement}
 use Rattle.slots.proofs.outdoes.Tie as tie
 
-load-requires : tie.Need-load-requires
-load-requires c κs = search needs
-
-is-qualified-requires : tie.Need-is-qualified-requires
-is-qualified-requires c κs = search needs
-
 returns : tie.Need-returns
 returns c =
     let q = c .before in
     rw (← q .before .load .ensures, sym (q .is-qualified .ensures) ∙ not-true _ (c .if1 .taken))
-
-is-ahead-requires : tie.Need-is-ahead-requires
-is-ahead-requires c κs = search needs
 
 returns-2 : tie.Need-returns-2
 returns-2 c =
@@ -34,4 +25,4 @@ returns-3 c =
 pub outdoes-spec : {M : Type 1} → statement M
 outdoes-spec =
     tie.close
-    (tie.spec load-requires is-qualified-requires returns is-ahead-requires returns-2 returns-3)
+    (tie.spec (λ c κs. search needs) (λ c κs. search needs) returns (λ c κs. search needs) returns-2 returns-3)

@@ -6,28 +6,10 @@ use borrow.Author.Needs.{needs}
 use Rattle.slots.proofs.plan.Statement.{statement}
 use Rattle.slots.proofs.plan.Tie as tie
 
-shared-slice-read-if1 : tie.Need-shared-slice-read-if1
-shared-slice-read-if1 c = search needs
-
 returns : tie.Need-returns
 returns c =
     let g = c .before .before .before .args in
     plan-backward (portOf (g .ws .now)) (g .t) (g .a) (c .if1 .taken)
-
-shared-slice-read-window : tie.Need-shared-slice-read-window
-shared-slice-read-window c = search needs
-
-window-requires : tie.Need-window-requires
-window-requires c κs = search needs
-
-find-of-requires : tie.Need-find-of-requires
-find-of-requires c κs = search needs
-
-load-requires : tie.Need-load-requires
-load-requires c κs = search needs
-
-known-requires : tie.Need-known-requires
-known-requires c κs = search needs
 
 returns-2 : tie.Need-returns-2
 returns-2 c =
@@ -37,12 +19,6 @@ returns-2 c =
     let g = w .before .before .before .before .before .args in
     let i<16 = l .before .if2 .taken in
     plan-known (portOf (g .ws .now)) (g .t) (g .a) _ _ _ _ (w .before .before .if1 .left) (w .window .ensures) (f .find-of .ensures) i<16 (l .load .ensures ∙ slot-is _ _ i<16) (c .known .ensures)
-
-find-free-requires : tie.Need-find-free-requires
-find-free-requires c κs = search needs
-
-unknown-requires : tie.Need-unknown-requires
-unknown-requires c κs = search needs
 
 returns-3 : tie.Need-returns-3
 returns-3 c =
@@ -56,14 +32,14 @@ pub plan-spec : {M : Type 1} → statement M
 plan-spec =
     tie.close
     (tie.spec
-    shared-slice-read-if1
+    (λ c. search needs)
     returns
-    shared-slice-read-window
-    window-requires
-    find-of-requires
-    load-requires
-    known-requires
+    (λ c. search needs)
+    (λ c κs. search needs)
+    (λ c κs. search needs)
+    (λ c κs. search needs)
+    (λ c κs. search needs)
     returns-2
-    find-free-requires
-    unknown-requires
+    (λ c κs. search needs)
+    (λ c κs. search needs)
     returns-3)

@@ -7,9 +7,6 @@ use borrow.Author.Needs.{needs}
 use Rattle.slots.proofs.slot.Statement.{statement}
 use Rattle.slots.proofs.slot.Tie as tie
 
-load-requires : tie.Need-load-requires
-load-requires c κs = search needs
-
 returns : tie.Need-returns
 returns c =
     let l = c .before .before in
@@ -28,4 +25,4 @@ returns-3 c =
     slot-empty (portOf (g .ws .now)) (g .i) emptySlot (slot-past _ _ (c .if1 .left)) refl
 
 pub slot-spec : {M : Type 1} → statement M
-slot-spec = tie.close (tie.spec load-requires returns returns-2 returns-3)
+slot-spec = tie.close (tie.spec (λ c κs. search needs) returns returns-2 returns-3)

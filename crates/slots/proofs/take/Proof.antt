@@ -9,34 +9,16 @@ use borrow.Author.Needs.{needs}
 use Rattle.slots.proofs.take.Statement.{statement}
 use Rattle.slots.proofs.take.Tie as tie
 
-plan-requires : tie.Need-plan-requires
-plan-requires c κs = search needs
-
-enum-known-p : tie.Need-enum-known-p
-enum-known-p c = search needs
-
-enum-known-p-2 : tie.Need-enum-known-p-2
-enum-known-p-2 c = search needs
-
 store-requires : tie.Need-store-requires
 store-requires c κs =
     let r = c .before .before in
     let s = r .before .before .before .before .before in
     (s .pre, plan-place (s .args .ws .now) (s .args .t) (s .args .a) _ _ (sym (r .before .before .plan .ensures) ∙ r .p2 .given .1))
 
-slice-write-ws : tie.Need-slice-write-ws
-slice-write-ws c = search needs
-
-same-length : tie.Need-same-length
-same-length c = search needs
-
 returns : tie.Need-returns
 returns c =
     let g = c .before .before .before .before .before .before .args in
     refused (g .ws .now) (g .t) _ _ _ (c .before .before .before .plan .ensures) (c .before .p .given .1)
-
-same-length-2 : tie.Need-same-length-2
-same-length-2 c = search needs
 
 returns-2 : tie.Need-returns-2
 returns-2 c =
@@ -51,12 +33,12 @@ pub take-spec : {M : Type 1} → statement M
 take-spec =
     tie.close
     (tie.spec
-    plan-requires
-    enum-known-p
-    enum-known-p-2
+    (λ c κs. search needs)
+    (λ c. search needs)
+    (λ c. search needs)
     store-requires
-    slice-write-ws
-    same-length
+    (λ c. search needs)
+    (λ c. search needs)
     returns
-    same-length-2
+    (λ c. search needs)
     returns-2)

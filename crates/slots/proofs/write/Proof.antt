@@ -6,32 +6,11 @@ use borrow.Author.Needs.{needs}
 use Rattle.slots.proofs.write.Statement.{statement}
 use Rattle.slots.proofs.write.Tie as tie
 
-pack-id-requires : tie.Need-pack-id-requires
-pack-id-requires c κs = search needs
-
-pack-grade-requires : tie.Need-pack-grade-requires
-pack-grade-requires c κs = search needs
-
-slice-write-s : tie.Need-slice-write-s
-slice-write-s c = search needs
-
-slice-write-s-2 : tie.Need-slice-write-s-2
-slice-write-s-2 c = search needs
-
-slice-write-s-3 : tie.Need-slice-write-s-3
-slice-write-s-3 c = search needs
-
-slice-write-s-4 : tie.Need-slice-write-s-4
-slice-write-s-4 c = search needs
-
 slice-write-s-5 : tie.Need-slice-write-s-5
 slice-write-s-5 c = simp length-set (omega arith)
 
 slice-write-s-6 : tie.Need-slice-write-s-6
 slice-write-s-6 c = simp length-set (omega arith)
-
-same-length : tie.Need-same-length
-same-length c = search needs
 
 returns : tie.Need-returns
 returns c =
@@ -42,13 +21,13 @@ pub write-spec : {M : Type 1} → statement M
 write-spec =
     tie.close
     (tie.spec
-    pack-id-requires
-    pack-grade-requires
-    slice-write-s
-    slice-write-s-2
-    slice-write-s-3
-    slice-write-s-4
+    (λ c κs. search needs)
+    (λ c κs. search needs)
+    (λ c. search needs)
+    (λ c. search needs)
+    (λ c. search needs)
+    (λ c. search needs)
     slice-write-s-5
     slice-write-s-6
-    same-length
+    (λ c. search needs)
     returns)

@@ -4,9 +4,6 @@ use borrow.Author.Needs.{needs}
 use Rattle.words.proofs.port_of.Statement.{statement}
 use Rattle.words.proofs.port_of.Tie as tie
 
-cast-result : tie.Need-cast-result
-cast-result c = search needs
-
 returns : tie.Need-returns
 returns c = rw (lt-ltb _ _ (c .if1 .taken))
 
@@ -14,4 +11,4 @@ returns-2 : tie.Need-returns-2
 returns-2 c = rw (le-ltb _ _ (c .if1 .left))
 
 pub port-of-spec : {M : Type 1} → statement M
-port-of-spec = tie.close (tie.spec cast-result returns returns-2)
+port-of-spec = tie.close (tie.spec (λ c. search needs) returns returns-2)

@@ -6,21 +6,6 @@ use borrow.Author.Needs.{needs}
 use Rattle.wr_tlvs.proofs.calibrate_data.Statement.{statement}
 use Rattle.wr_tlvs.proofs.calibrate_data.Tie as tie
 
-four-requires : tie.Need-four-requires
-four-requires c κs = search needs
-
-array-read-t8 : tie.Need-array-read-t8
-array-read-t8 c = search needs
-
-array-read-t11 : tie.Need-array-read-t11
-array-read-t11 c = search needs
-
-array-read-t14 : tie.Need-array-read-t14
-array-read-t14 c = search needs
-
-array-read-t17 : tie.Need-array-read-t17
-array-read-t17 c = search needs
-
 returns : tie.Need-returns
 returns c =
     let a = c .before .args in
@@ -29,4 +14,4 @@ returns c =
 pub calibrate-data-spec : {M : Type 1} → statement M
 calibrate-data-spec =
     tie.close
-    (tie.spec four-requires array-read-t8 array-read-t11 array-read-t14 array-read-t17 returns)
+    (tie.spec (λ c κs. search needs) (λ c. search needs) (λ c. search needs) (λ c. search needs) (λ c. search needs) returns)

@@ -15,20 +15,11 @@ use Rattle.wr_tlvs.proofs.write_link.Tie as tie
 front : (c : tie.After-link) → let a = c .before .before .args in take (c .link .result .size) (c .link .result .octets) ≡ linkOctets (a .magic) (a .x)
 front c = let a = c .before .before .args in (λ i. take (c .link .ensures i .size) (c .link .ensures i .octets)) ∙ link-front (a .magic) (a .x)
 
-link-requires : tie.Need-link-requires
-link-requires c κs = search needs
-
 array-share-prefix-octets : tie.Need-array-share-prefix-octets
 array-share-prefix-octets c = let k = c .before in rw (k .link .ensures) (link-most (k .before .before .args .magic) (k .before .before .args .x))
 
 slice-aggregate-tail : tie.Need-slice-aggregate-tail
 slice-aggregate-tail c = let k = c .before .before in let a = k .before .before .args in ap (λ (t : WrTlv). t .size) (k .link .ensures) ∙ link-count (a .magic) (a .x) ∙ ap length (sym (front k))
-
-write-requires : tie.Need-write-requires
-write-requires c κs = search needs
-
-same-length : tie.Need-same-length
-same-length c = search needs
 
 returns : tie.Need-returns
 returns c =
@@ -42,9 +33,9 @@ pub write-link-spec : {M : Type 1} → statement M
 write-link-spec =
     tie.close
     (tie.spec
-    link-requires
+    (λ c κs. search needs)
     array-share-prefix-octets
     slice-aggregate-tail
-    write-requires
-    same-length
+    (λ c κs. search needs)
+    (λ c. search needs)
     returns)

@@ -5,21 +5,6 @@ use borrow.Author.Needs.{needs}
 use Rattle.candidate_words.proofs.answers.put_decided.Statement.{statement}
 use Rattle.candidate_words.proofs.answers.put_decided.Tie as tie
 
-enum-known-a : tie.Need-enum-known-a
-enum-known-a c = search needs
-
-number-requires : tie.Need-number-requires
-number-requires c κs = search needs
-
-enum-known-a-2 : tie.Need-enum-known-a-2
-enum-known-a-2 c = search needs
-
-code-requires : tie.Need-code-requires
-code-requires c κs = search needs
-
-cast-t7 : tie.Need-cast-t7
-cast-t7 c = search needs
-
 returns : tie.Need-returns
 returns c = rw (c .before .before .a .given .1) (c .number .ensures, refl)
 
@@ -30,10 +15,10 @@ pub put-decided-spec : {M : Type 1} → statement M
 put-decided-spec =
     tie.close
     (tie.spec
-    enum-known-a
-    number-requires
-    enum-known-a-2
-    code-requires
-    cast-t7
+    (λ c. search needs)
+    (λ c κs. search needs)
+    (λ c. search needs)
+    (λ c κs. search needs)
+    (λ c. search needs)
     returns
     returns-2)

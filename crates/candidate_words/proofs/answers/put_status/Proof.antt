@@ -8,18 +8,6 @@ use borrow.Author.Needs.{needs}
 use Rattle.candidate_words.proofs.answers.put_status.Statement.{statement}
 use Rattle.candidate_words.proofs.answers.put_status.Tie as tie
 
-enum-known-s : tie.Need-enum-known-s
-enum-known-s c = search needs
-
-number-requires : tie.Need-number-requires
-number-requires c κs = search needs
-
-enum-known-s-2 : tie.Need-enum-known-s-2
-enum-known-s-2 c = search needs
-
-word-of-i8-requires : tie.Need-word-of-i8-requires
-word-of-i8-requires c κs = search needs
-
 returns : tie.Need-returns
 returns c = rw (c .before .before .s .given .1) (c .number .ensures, refl)
 
@@ -35,4 +23,4 @@ returns-2 c =
 pub put-status-spec : {M : Type 1} → statement M
 put-status-spec =
     tie.close
-    (tie.spec enum-known-s number-requires enum-known-s-2 word-of-i8-requires returns returns-2)
+    (tie.spec (λ c. search needs) (λ c κs. search needs) (λ c. search needs) (λ c κs. search needs) returns returns-2)

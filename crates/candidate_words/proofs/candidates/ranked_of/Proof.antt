@@ -3,21 +3,6 @@ use borrow.Author.Needs.{needs}
 use Rattle.candidate_words.proofs.candidates.ranked_of.Statement.{statement}
 use Rattle.candidate_words.proofs.candidates.ranked_of.Tie as tie
 
-candidate-at-requires : tie.Need-candidate-at-requires
-candidate-at-requires c κs = search needs
-
-candidate-at-requires-2 : tie.Need-candidate-at-requires-2
-candidate-at-requires-2 c κs = search needs
-
-candidate-at-requires-3 : tie.Need-candidate-at-requires-3
-candidate-at-requires-3 c κs = search needs
-
-candidate-at-requires-4 : tie.Need-candidate-at-requires-4
-candidate-at-requires-4 c κs = search needs
-
-element-copy-out-t16 : tie.Need-element-copy-out-t16
-element-copy-out-t16 c = search needs
-
 returns : tie.Need-returns
 returns c =
     let d = c .before in
@@ -30,9 +15,9 @@ pub ranked-of-spec : {M : Type 1} → statement M
 ranked-of-spec =
     tie.close
     (tie.spec
-    candidate-at-requires
-    candidate-at-requires-2
-    candidate-at-requires-3
-    candidate-at-requires-4
-    element-copy-out-t16
+    (λ c κs. search needs)
+    (λ c κs. search needs)
+    (λ c κs. search needs)
+    (λ c κs. search needs)
+    (λ c. search needs)
     returns)

@@ -3,18 +3,6 @@ use borrow.Author.Needs.{needs}
 use Rattle.candidate_words.proofs.fits.list_fits.Statement.{statement}
 use Rattle.candidate_words.proofs.fits.list_fits.Tie as tie
 
-slot-fits-requires : tie.Need-slot-fits-requires
-slot-fits-requires c κs = search needs
-
-slot-fits-requires-2 : tie.Need-slot-fits-requires-2
-slot-fits-requires-2 c κs = search needs
-
-slot-fits-requires-3 : tie.Need-slot-fits-requires-3
-slot-fits-requires-3 c κs = search needs
-
-slot-fits-requires-4 : tie.Need-slot-fits-requires-4
-slot-fits-requires-4 c κs = search needs
-
 returns : tie.Need-returns
 returns c =
     let d = c .before in
@@ -26,8 +14,8 @@ pub list-fits-spec : {M : Type 1} → statement M
 list-fits-spec =
     tie.close
     (tie.spec
-    slot-fits-requires
-    slot-fits-requires-2
-    slot-fits-requires-3
-    slot-fits-requires-4
+    (λ c κs. search needs)
+    (λ c κs. search needs)
+    (λ c κs. search needs)
+    (λ c κs. search needs)
     returns)

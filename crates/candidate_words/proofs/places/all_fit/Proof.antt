@@ -7,10 +7,10 @@ use borrow.Author.Needs.{needs}
 use borrow.Author.Tests.{not-false, eqb-true, eqb-false}
 use lib.Dec.{eqb}
 use lib.ListN.{length, getD}
+use Rattle.laws.proofs.Bools.{clash}
 use Rattle.rank.specs.Ranked.{isPort}
 use Rattle.rank.proofs.Best.{cases}
 use Rattle.candidate_words.specs.Places.{candidateOf, Fit}
-use Rattle.candidate_words.proofs.MergeLaws.{never}
 use Rattle.candidate_words.proofs.places.all_fit.Statement.{statement}
 use Rattle.candidate_words.proofs.places.all_fit.Tie as tie
 use Rattle.candidate_words.proofs.places.all_fit.Reads as reads
@@ -30,53 +30,23 @@ loop-holds : tie.Need-loop-holds Inv-loop μ-loop
 loop-holds c = (omega arith, c .pre .0, λ k h j. absurd (omega arith))
 
 -- src/places.rt:267:42
-mul-port-of : tie.Need-mul-port-of Inv-loop μ-loop
-mul-port-of c = search needs
-
 -- src/places.rt:267:42
-index-1-port-of : tie.Need-index-1-port-of Inv-loop μ-loop
-index-1-port-of c = search needs
-
 -- src/places.rt:267:42
-index-2-port-of : tie.Need-index-2-port-of Inv-loop μ-loop
-index-2-port-of c = search needs
-
 -- src/places.rt:267:27
-port-of-requires : tie.Need-port-of-requires Inv-loop μ-loop
-port-of-requires c κs = search needs
-
 -- src/places.rt:267:13
-is-port-requires : tie.Need-is-port-requires Inv-loop μ-loop
-is-port-requires c κs = search needs
-
 -- src/places.rt:268:13
 returns : tie.Need-returns Inv-loop μ-loop
-returns c = λ e. never e refl
+returns c = λ e. clash e refl
 
 -- src/places.rt:270:35
-mul-one-fits : tie.Need-mul-one-fits Inv-loop μ-loop
-mul-one-fits c = search needs
-
 -- src/places.rt:270:35
-shared-slice-element-one-fits : tie.Need-shared-slice-element-one-fits Inv-loop μ-loop
-shared-slice-element-one-fits c = search needs
-
 -- src/places.rt:270:13
-one-fits-requires : tie.Need-one-fits-requires Inv-loop μ-loop
-one-fits-requires c κs = search needs
-
 -- src/places.rt:271:13
 returns-2 : tie.Need-returns-2 Inv-loop μ-loop
-returns-2 c = λ e. never e refl
+returns-2 c = λ e. clash e refl
 
 -- src/places.rt:273:9
-add-i : tie.Need-add-i Inv-loop μ-loop
-add-i c = search needs
-
 -- src/places.rt:266:5
-loop-less : tie.Need-loop-less Inv-loop μ-loop
-loop-less c = search needs
-
 -- the candidate of a turn that goes on fits
 fits-here : (c : tie.Else2 Inv-loop μ-loop)
     → let l = c .before .before .before .before .before .before .before .before in Fit (l .before .args .run .now) (l .loop .i)
@@ -117,17 +87,17 @@ all-fit-spec =
     Inv-loop
     μ-loop
     loop-holds
-    mul-port-of
-    index-1-port-of
-    index-2-port-of
-    port-of-requires
-    is-port-requires
+    (λ c. search needs)
+    (λ c. search needs)
+    (λ c. search needs)
+    (λ c κs. search needs)
+    (λ c κs. search needs)
     returns
-    mul-one-fits
-    shared-slice-element-one-fits
-    one-fits-requires
+    (λ c. search needs)
+    (λ c. search needs)
+    (λ c κs. search needs)
     returns-2
-    add-i
-    loop-less
+    (λ c. search needs)
+    (λ c. search needs)
     loop-again
     returns-3)

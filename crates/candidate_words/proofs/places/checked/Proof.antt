@@ -32,25 +32,10 @@ loop-holds : tie.Need-loop-holds Inv-loop μ-loop
 loop-holds c = (omega arith, refl, check-start (c .before .args .run .now) (c .if1 .left))
 
 -- src/places.rt:125:42
-mul-port-of : tie.Need-mul-port-of Inv-loop μ-loop
-mul-port-of c = search needs
-
 -- src/places.rt:125:42
-index-1-port-of : tie.Need-index-1-port-of Inv-loop μ-loop
-index-1-port-of c = search needs
-
 -- src/places.rt:125:42
-index-2-port-of : tie.Need-index-2-port-of Inv-loop μ-loop
-index-2-port-of c = search needs
-
 -- src/places.rt:125:27
-port-of-requires : tie.Need-port-of-requires Inv-loop μ-loop
-port-of-requires c κs = search needs
-
 -- src/places.rt:125:13
-is-port-requires : tie.Need-is-port-requires Inv-loop μ-loop
-is-port-requires c κs = search needs
-
 -- src/places.rt:126:13
 returns-2 : tie.Need-returns-2 Inv-loop μ-loop
 returns-2 c =
@@ -60,25 +45,10 @@ returns-2 c =
     check-port (l .before .before .args .run .now) (l .loop .whole) (l .loop .i) (omega arith) (sym (p .is-port .ensures ∙ ap isPort (p .before .port-of .ensures)) ∙ not-true _ (c .if2 .taken)) ∙ l .loop .inv .2
 
 -- src/places.rt:128:47
-mul-one-fits : tie.Need-mul-one-fits Inv-loop μ-loop
-mul-one-fits c = search needs
-
 -- src/places.rt:128:47
-shared-slice-element-one-fits : tie.Need-shared-slice-element-one-fits Inv-loop μ-loop
-shared-slice-element-one-fits c = search needs
-
 -- src/places.rt:128:25
-one-fits-requires : tie.Need-one-fits-requires Inv-loop μ-loop
-one-fits-requires c κs = search needs
-
 -- src/places.rt:129:9
-add-i : tie.Need-add-i Inv-loop μ-loop
-add-i c = search needs
-
 -- src/places.rt:124:5
-loop-less : tie.Need-loop-less Inv-loop μ-loop
-loop-less c = search needs
-
 -- src/places.rt:124:5
 loop-again : tie.Need-loop-again Inv-loop μ-loop
 loop-again c =
@@ -114,17 +84,17 @@ checked-spec =
     μ-loop
     returns
     loop-holds
-    mul-port-of
-    index-1-port-of
-    index-2-port-of
-    port-of-requires
-    is-port-requires
+    (λ c. search needs)
+    (λ c. search needs)
+    (λ c. search needs)
+    (λ c κs. search needs)
+    (λ c κs. search needs)
     returns-2
-    mul-one-fits
-    shared-slice-element-one-fits
-    one-fits-requires
-    add-i
-    loop-less
+    (λ c. search needs)
+    (λ c. search needs)
+    (λ c κs. search needs)
+    (λ c. search needs)
+    (λ c. search needs)
     loop-again
     returns-3
     returns-4)

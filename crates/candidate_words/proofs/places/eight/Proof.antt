@@ -9,37 +9,13 @@ use Rattle.candidate_words.proofs.places.eight.Lts as lts
 use Rattle.candidate_words.proofs.places.row.Reads as row-reads
 
 -- src/places.rt:249:9
-row-requires : tie.Need-row-requires
-row-requires c κs = search needs
-
 -- src/places.rt:250:9
-row-requires-2 : tie.Need-row-requires-2
-row-requires-2 c κs = search needs
-
 -- src/places.rt:251:9
-row-requires-3 : tie.Need-row-requires-3
-row-requires-3 c κs = search needs
-
 -- src/places.rt:252:9
-row-requires-4 : tie.Need-row-requires-4
-row-requires-4 c κs = search needs
-
 -- src/places.rt:253:9
-row-requires-5 : tie.Need-row-requires-5
-row-requires-5 c κs = search needs
-
 -- src/places.rt:254:9
-row-requires-6 : tie.Need-row-requires-6
-row-requires-6 c κs = search needs
-
 -- src/places.rt:255:9
-row-requires-7 : tie.Need-row-requires-7
-row-requires-7 c κs = search needs
-
 -- src/places.rt:256:9
-row-requires-8 : tie.Need-row-requires-8
-row-requires-8 c κs = search needs
-
 -- src/places.rt:245:1
 returns : tie.Need-returns
 unfolding eightOf
@@ -65,12 +41,12 @@ pub eight-spec : {M : Type 1} → statement M
 eight-spec =
     tie.close
     (tie.spec
-    row-requires
-    row-requires-2
-    row-requires-3
-    row-requires-4
-    row-requires-5
-    row-requires-6
-    row-requires-7
-    row-requires-8
+    (λ c κs. search needs)
+    (λ c κs. search needs)
+    (λ c κs. search needs)
+    (λ c κs. search needs)
+    (λ c κs. search needs)
+    (λ c κs. search needs)
+    (λ c κs. search needs)
+    (λ c κs. search needs)
     returns)

@@ -42,13 +42,7 @@ sink-requires : tie.Need-sink-requires Inv-loop μ-loop
 sink-requires c κs = let t = c .before .before in let l = t .before in (l .loop .inv .2, l .before .pre .3 (l .loop .i) (l .loop .inv .0) (t .loop-test .taken))
 
 -- src/places.rt:109:9
-add-i : tie.Need-add-i Inv-loop μ-loop
-add-i c = search needs
-
 -- src/places.rt:105:5
-loop-less : tie.Need-loop-less Inv-loop μ-loop
-loop-less c = search needs
-
 -- a turn inserts one candidate
 turned : (c : tie.Joined1 Inv-loop μ-loop)
     → let l = c .before .before .before in
@@ -99,7 +93,7 @@ fill-spec =
     loop-holds
     left-out-requires
     sink-requires
-    add-i
-    loop-less
+    (λ c. search needs)
+    (λ c. search needs)
     loop-again
     returns)

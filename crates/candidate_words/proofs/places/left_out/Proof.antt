@@ -22,17 +22,8 @@ returns : tie.Need-returns
 returns c = simp (ne-eqb _ _ (c .if1 .taken))
 
 -- src/places.rt:41:16
-element-copy-out-last : tie.Need-element-copy-out-last
-element-copy-out-last c = search needs
-
 -- src/places.rt:42:12
-mul-lower : tie.Need-mul-lower
-mul-lower c = search needs
-
 -- src/places.rt:42:12
-shared-slice-element-lower : tie.Need-shared-slice-element-lower
-shared-slice-element-lower c = search needs
-
 -- the last place is in the run
 last-in : (c : tie.Else1) → Fit (c .before .args .run .now) (getD (c .before .args .t2 .at) 3 0)
 last-in c = c .before .pre .0 .each 3 (omega (arith, c .if1 .left))
@@ -46,9 +37,6 @@ shared-slice-element-lower-2 : tie.Need-shared-slice-element-lower-2
 shared-slice-element-lower-2 c = last-in (c .before .before) .inside
 
 -- src/places.rt:42:6
-lower-requires : tie.Need-lower-requires
-lower-requires c κs = search needs
-
 -- src/places.rt:34:1
 returns-2 : tie.Need-returns-2
 returns-2 c =
@@ -65,10 +53,10 @@ left-out-spec =
     tie.close
     (tie.spec
     returns
-    element-copy-out-last
-    mul-lower
-    shared-slice-element-lower
+    (λ c. search needs)
+    (λ c. search needs)
+    (λ c. search needs)
     mul-lower-2
     shared-slice-element-lower-2
-    lower-requires
+    (λ c κs. search needs)
     returns-2)

@@ -24,37 +24,13 @@ unfolding lowerOf
 loop-holds c = (omega arith, refl)
 
 -- src/places.rt:25:12
-mul-if1 : tie.Need-mul-if1 Inv-loop μ-loop
-mul-if1 c = search needs
-
 -- src/places.rt:25:12
-element-copy-out-if1 : tie.Need-element-copy-out-if1 Inv-loop μ-loop
-element-copy-out-if1 c = search needs
-
 -- src/places.rt:25:20
-mul-if1-2 : tie.Need-mul-if1-2 Inv-loop μ-loop
-mul-if1-2 c = search needs
-
 -- src/places.rt:25:20
-element-copy-out-if1-2 : tie.Need-element-copy-out-if1-2 Inv-loop μ-loop
-element-copy-out-if1-2 c = search needs
-
 -- src/places.rt:26:20
-mul-result : tie.Need-mul-result Inv-loop μ-loop
-mul-result c = search needs
-
 -- src/places.rt:26:20
-element-copy-out-result : tie.Need-element-copy-out-result Inv-loop μ-loop
-element-copy-out-result c = search needs
-
 -- src/places.rt:26:27
-mul-result-2 : tie.Need-mul-result-2 Inv-loop μ-loop
-mul-result-2 c = search needs
-
 -- src/places.rt:26:27
-element-copy-out-result-2 : tie.Need-element-copy-out-result-2 Inv-loop μ-loop
-element-copy-out-result-2 c = search needs
-
 -- src/places.rt:26:13
 returns : tie.Need-returns Inv-loop μ-loop
 returns c =
@@ -63,13 +39,7 @@ returns c =
     lex-here (l .before .args .a .now) (l .before .args .b .now) (l .loop .i) (omega arith) (t .if1 .taken) ∙ l .loop .inv .1
 
 -- src/places.rt:28:9
-add-i : tie.Need-add-i Inv-loop μ-loop
-add-i c = search needs
-
 -- src/places.rt:24:5
-loop-less : tie.Need-loop-less Inv-loop μ-loop
-loop-less c = search needs
-
 -- src/places.rt:24:5
 loop-again : tie.Need-loop-again Inv-loop μ-loop
 loop-again c =
@@ -90,16 +60,16 @@ lower-spec =
     Inv-loop
     μ-loop
     loop-holds
-    mul-if1
-    element-copy-out-if1
-    mul-if1-2
-    element-copy-out-if1-2
-    mul-result
-    element-copy-out-result
-    mul-result-2
-    element-copy-out-result-2
+    (λ c. search needs)
+    (λ c. search needs)
+    (λ c. search needs)
+    (λ c. search needs)
+    (λ c. search needs)
+    (λ c. search needs)
+    (λ c. search needs)
+    (λ c. search needs)
     returns
-    add-i
-    loop-less
+    (λ c. search needs)
+    (λ c. search needs)
     loop-again
     returns-2)

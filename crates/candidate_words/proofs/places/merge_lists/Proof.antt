@@ -20,9 +20,6 @@ use Rattle.candidate_words.proofs.places.merge_quickly.Reads as merge-q
 use Rattle.rank.proofs.merge.Reads as merge-reads
 
 -- src/places.rt:328:8
-merge-quickly-requires : tie.Need-merge-quickly-requires
-merge-quickly-requires c κs = search needs
-
 -- src/places.rt:329:9
 returns : tie.Need-returns
 returns c =
@@ -30,33 +27,12 @@ returns c =
     rw (h .outcome (c .if1 .taken)) (refl, h .words (c .if1 .taken))
 
 -- src/places.rt:331:25
-ranked-of-requires : tie.Need-ranked-of-requires
-ranked-of-requires c κs = search needs
-
 -- src/places.rt:331:58
-ranked-of-requires-2 : tie.Need-ranked-of-requires-2
-ranked-of-requires-2 c κs = search needs
-
 -- src/places.rt:331:9
-merge-requires : tie.Need-merge-requires
-merge-requires c κs = search needs
-
 -- src/places.rt:332:9
-list-fits-requires : tie.Need-list-fits-requires
-list-fits-requires c κs = search needs
-
 -- src/places.rt:333:9
-list-fits-requires-2 : tie.Need-list-fits-requires-2
-list-fits-requires-2 c κs = search needs
-
 -- src/places.rt:334:9
-ranking-fitted-requires : tie.Need-ranking-fitted-requires
-ranking-fitted-requires c κs = search needs
-
 -- src/places.rt:335:5
-put-ranking-requires : tie.Need-put-ranking-requires
-put-ranking-requires c κs = search needs
-
 -- src/places.rt:324:1
 returns-2 : tie.Need-returns-2
 returns-2 c =
@@ -76,13 +52,13 @@ pub merge-lists-spec : {M : Type 1} → statement M
 merge-lists-spec =
     tie.close
     (tie.spec
-    merge-quickly-requires
+    (λ c κs. search needs)
     returns
-    ranked-of-requires
-    ranked-of-requires-2
-    merge-requires
-    list-fits-requires
-    list-fits-requires-2
-    ranking-fitted-requires
-    put-ranking-requires
+    (λ c κs. search needs)
+    (λ c κs. search needs)
+    (λ c κs. search needs)
+    (λ c κs. search needs)
+    (λ c κs. search needs)
+    (λ c κs. search needs)
+    (λ c κs. search needs)
     returns-2)

@@ -14,33 +14,15 @@ use Rattle.candidate_words.proofs.places.eight.Reads as eight-reads
 use Rattle.candidate_words.proofs.places.merge_run.Reads as merge-run-reads
 
 -- src/places.rt:316:13
-element-copy-out-if1 : tie.Need-element-copy-out-if1
-element-copy-out-if1 c = search needs
-
 -- src/places.rt:316:26
-element-copy-out-if1-2 : tie.Need-element-copy-out-if1-2
-element-copy-out-if1-2 c = search needs
-
 -- src/places.rt:317:9
 returns : tie.Need-returns
 returns c = not-merged _ _ _
 
 -- src/places.rt:319:15
-eight-requires : tie.Need-eight-requires
-eight-requires c κs = search needs
-
 -- src/places.rt:320:15
-slice-aggregate-merge-run : tie.Need-slice-aggregate-merge-run
-slice-aggregate-merge-run c = search needs
-
 -- src/places.rt:320:21
-element-copy-out-merge-run : tie.Need-element-copy-out-merge-run
-element-copy-out-merge-run c = search needs
-
 -- src/places.rt:320:36
-element-copy-out-merge-run-2 : tie.Need-element-copy-out-merge-run-2
-element-copy-out-merge-run-2 c = search needs
-
 -- src/places.rt:320:5
 merge-run-requires : tie.Need-merge-run-requires
 merge-run-requires c κs =
@@ -64,12 +46,12 @@ pub merge-quickly-spec : {M : Type 1} → statement M
 merge-quickly-spec =
     tie.close
     (tie.spec
-    element-copy-out-if1
-    element-copy-out-if1-2
+    (λ c. search needs)
+    (λ c. search needs)
     returns
-    eight-requires
-    slice-aggregate-merge-run
-    element-copy-out-merge-run
-    element-copy-out-merge-run-2
+    (λ c κs. search needs)
+    (λ c. search needs)
+    (λ c. search needs)
+    (λ c. search needs)
     merge-run-requires
     returns-2)

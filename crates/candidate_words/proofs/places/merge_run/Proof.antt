@@ -6,13 +6,14 @@ use mathlib.Core.List.{List}
 use native.Mathlib.Omega.{arith}
 use borrow.Author.Tests.{not-false}
 use lib.ListN.{length}
+use Rattle.laws.proofs.Bools.{clash}
 use Rattle.rank.specs.declared.Candidate.{Candidate}
 use Rattle.rank.specs.Ranked.{pack}
 use Rattle.rank.proofs.Merging.{both}
 use Rattle.candidate_words.specs.Candidates.{rankedWords}
 use Rattle.candidate_words.specs.Places.{Fit, unmovedOf}
 use Rattle.candidate_words.proofs.Filling.{inside-none}
-use Rattle.candidate_words.proofs.MergeLaws.{never, not-tried, part-valid, part-holds, part-stands, both-ranked}
+use Rattle.candidate_words.proofs.MergeLaws.{not-tried, part-valid, part-holds, part-stands, both-ranked}
 use borrow.Author.Needs.{needs}
 use Rattle.candidate_words.proofs.places.merge_run.Statement.{statement}
 use Rattle.candidate_words.proofs.places.merge_run.Tie as tie
@@ -25,25 +26,13 @@ use Rattle.candidate_words.proofs.places.put.Reads as put-reads
 use Rattle.candidate_words.proofs.places.unmoved.Reads as unmoved-reads
 
 -- src/places.rt:297:9
-all-fit-requires : tie.Need-all-fit-requires
-all-fit-requires c κs = search needs
-
 -- src/places.rt:298:34
-add-all-fit : tie.Need-add-all-fit
-add-all-fit c = search needs
-
 -- src/places.rt:298:9
-all-fit-requires-2 : tie.Need-all-fit-requires-2
-all-fit-requires-2 c κs = search needs
-
 -- src/places.rt:300:9
 returns : tie.Need-returns
 returns c = not-tried _ _ _ _
 
 -- src/places.rt:302:23
-none-requires : tie.Need-none-requires
-none-requires c κs = search needs
-
 -- each candidate of both parts fits
 fits : (c : tie.Else1)
     → let s = c .before .before .before in
@@ -63,13 +52,7 @@ fill-requires c κs =
     )
 
 -- src/places.rt:303:23
-none-requires-2 : tie.Need-none-requires-2
-none-requires-2 c κs = search needs
-
 -- src/places.rt:303:34
-add-fill : tie.Need-add-fill
-add-fill c = search needs
-
 -- src/places.rt:303:9
 fill-requires-2 : tie.Need-fill-requires-2
 fill-requires-2 c κs =
@@ -82,21 +65,12 @@ fill-requires-2 c κs =
     )
 
 -- src/places.rt:304:10
-unmoved-requires : tie.Need-unmoved-requires
-unmoved-requires c κs = search needs
-
 -- src/places.rt:304:29
-unmoved-requires-2 : tie.Need-unmoved-requires-2
-unmoved-requires-2 c κs = search needs
-
 -- src/places.rt:305:9
 returns-2 : tie.Need-returns-2
 returns-2 c = not-tried _ _ _ _
 
 -- src/places.rt:307:29
-add-fill-2 : tie.Need-add-fill-2
-add-fill-2 c = search needs
-
 -- src/places.rt:307:9
 fill-requires-3 : tie.Need-fill-requires-3
 fill-requires-3 c κs =
@@ -106,9 +80,6 @@ fill-requires-3 c κs =
     (f .fill .ensures .0, omega arith, omega (arith, s .pre .0, s .pre .2), fits e .1)
 
 -- src/places.rt:308:5
-put-requires : tie.Need-put-requires
-put-requires c κs = search needs
-
 -- src/places.rt:293:1
 returns-3 : tie.Need-returns-3
 returns-3 c =
@@ -130,7 +101,7 @@ returns-3 c =
     let in2 : 4 + m ≤ length run = omega (arith, s .pre .0, s .pre .2) in
     let sum : 0 + n ≡ n = omega arith in
     record {
-      left = λ h. never refl h;
+      left = λ h. clash refl h;
       first =
           λ h.
           part-stands run n 0 n sum in1 (s .pre .1) (fits e .0) (p .none .result) (f .fill .result) (p .none .ensures .0) (p .none .ensures .1) (f .fill .ensures .0) (f .fill .ensures .1)
@@ -154,19 +125,19 @@ pub merge-run-spec : {M : Type 1} → statement M
 merge-run-spec =
     tie.close
     (tie.spec
-    all-fit-requires
-    add-all-fit
-    all-fit-requires-2
+    (λ c κs. search needs)
+    (λ c. search needs)
+    (λ c κs. search needs)
     returns
-    none-requires
+    (λ c κs. search needs)
     fill-requires
-    none-requires-2
-    add-fill
+    (λ c κs. search needs)
+    (λ c. search needs)
     fill-requires-2
-    unmoved-requires
-    unmoved-requires-2
+    (λ c κs. search needs)
+    (λ c κs. search needs)
     returns-2
-    add-fill-2
+    (λ c. search needs)
     fill-requires-3
-    put-requires
+    (λ c κs. search needs)
     returns-3)

@@ -20,25 +20,10 @@ use Rattle.candidate_words.proofs.places.put.Reads as put-reads
 use Rattle.refusal.proofs.number.Reads as number-reads
 
 -- src/places.rt:212:9
-checked-requires : tie.Need-checked-requires
-checked-requires c κs = search needs
-
 -- src/places.rt:214:26
-enum-known-x : tie.Need-enum-known-x
-enum-known-x c = search needs
-
 -- src/places.rt:214:32
-number-requires : tie.Need-number-requires
-number-requires c κs = search needs
-
 -- src/places.rt:216:31
-enum-told : tie.Need-enum-told
-enum-told c = search needs
-
 -- src/places.rt:216:31
-none-requires : tie.Need-none-requires
-none-requires c κs = search needs
-
 -- nothing is refused
 whole : (c : tie.After-enum-told) → Passed (c .before .before .before .args .run .now)
 whole c = let k = c .before .before in passed (k .before .args .run .now) (sym (k .checked .ensures) ∙ c .enum-told .given .1)
@@ -55,9 +40,6 @@ fill-requires c κs =
     )
 
 -- src/places.rt:217:13
-put-requires : tie.Need-put-requires
-put-requires c κs = search needs
-
 -- src/places.rt:208:1
 returns : tie.Need-returns
 returns c =
@@ -80,12 +62,12 @@ pub rank-run-spec : {M : Type 1} → statement M
 rank-run-spec =
     tie.close
     (tie.spec
-    checked-requires
-    enum-known-x
-    number-requires
-    enum-told
-    none-requires
+    (λ c κs. search needs)
+    (λ c. search needs)
+    (λ c κs. search needs)
+    (λ c. search needs)
+    (λ c κs. search needs)
     fill-requires
-    put-requires
+    (λ c κs. search needs)
     returns
     returns-2)

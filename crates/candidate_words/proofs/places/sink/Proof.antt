@@ -12,7 +12,7 @@ use Rattle.rank.specs.declared.Candidate.{Candidate}
 use Rattle.rank.specs.declared.Ranked.{Ranked}
 use Rattle.rank.specs.Order.{earlierOf}
 use Rattle.rank.specs.Best.{sink}
-use Rattle.rank.specs.Ranked.{portOf}
+use Rattle.rank.specs.Ranked.{receiverOf}
 use Rattle.rank.proofs.Best.{either}
 use Rattle.rank.proofs.Sinking.{Down, stays, goes, down-on, down-spent, down-dropped, down-grown}
 use Rattle.candidate_words.specs.Places.{candidateOf, Fit, Inside}
@@ -27,7 +27,7 @@ abbrev Inv-loop : tie.InvT-loop
 Inv-loop run c port n at₀ x₀ i₀ at x i =
     Inside run (record { len = n; at = at })
     × Fit run x
-    × Down port n (sink earlierOf portOf port (candidateOf run x₀) (take n (map (candidateOf run) at₀))) (map (candidateOf run) at₀) (map (candidateOf run) at) (candidateOf run x) i
+    × Down port n (sink earlierOf receiverOf port (candidateOf run x₀) (take n (map (candidateOf run) at₀))) (map (candidateOf run) at₀) (map (candidateOf run) at) (candidateOf run x) i
 
 abbrev μ-loop : tie.MeasureT-loop
 μ-loop run c port n at₀ x₀ i₀ at x i = n - i
@@ -89,17 +89,8 @@ port-here c =
     ∙ port-word run (getD (l .loop .at) (l .loop .i) 0) (here-in c)
 
 -- src/places.rt:52:16
-mul-port : tie.Need-mul-port Inv-loop μ-loop
-mul-port c = search needs
-
 -- src/places.rt:52:16
-index-1-port : tie.Need-index-1-port Inv-loop μ-loop
-index-1-port c = search needs
-
 -- src/places.rt:52:16
-index-2-port : tie.Need-index-2-port Inv-loop μ-loop
-index-2-port c = search needs
-
 -- src/places.rt:57:5
 loop-holds : tie.Need-loop-holds Inv-loop μ-loop
 loop-holds c =
@@ -116,21 +107,9 @@ loop-holds c =
     )
 
 -- src/places.rt:58:17
-mul-y : tie.Need-mul-y Inv-loop μ-loop
-mul-y c = search needs
-
 -- src/places.rt:58:17
-array-read-y : tie.Need-array-read-y Inv-loop μ-loop
-array-read-y c = search needs
-
 -- src/places.rt:59:18
-mul-lower : tie.Need-mul-lower Inv-loop μ-loop
-mul-lower c = search needs
-
 -- src/places.rt:59:18
-shared-slice-element-lower : tie.Need-shared-slice-element-lower Inv-loop μ-loop
-shared-slice-element-lower c = search needs
-
 -- src/places.rt:59:27
 mul-lower-2 : tie.Need-mul-lower-2 Inv-loop μ-loop
 mul-lower-2 c = let h = here-in (c .before) .inside in omega arith
@@ -140,17 +119,8 @@ shared-slice-element-lower-2 : tie.Need-shared-slice-element-lower-2 Inv-loop μ
 shared-slice-element-lower-2 c = here-in (c .before) .inside
 
 -- src/places.rt:59:12
-lower-requires : tie.Need-lower-requires Inv-loop μ-loop
-lower-requires c κs = search needs
-
 -- src/places.rt:60:13
-mul-at : tie.Need-mul-at Inv-loop μ-loop
-mul-at c = search needs
-
 -- src/places.rt:60:13
-array-write-at : tie.Need-array-write-at Inv-loop μ-loop
-array-write-at c = search needs
-
 -- src/places.rt:63:12
 mul-if2 : tie.Need-mul-if2 Inv-loop μ-loop
 mul-if2 c = let h = here-in (c .before .before .before .before) .inside in omega arith
@@ -160,9 +130,6 @@ index-1-if2 : tie.Need-index-1-if2 Inv-loop μ-loop
 index-1-if2 c = here-in (c .before .before .before .before) .inside
 
 -- src/places.rt:63:12
-index-2-if2 : tie.Need-index-2-if2 Inv-loop μ-loop
-index-2-if2 c = search needs
-
 -- src/places.rt:64:13
 returns : tie.Need-returns Inv-loop μ-loop
 returns c =
@@ -178,13 +145,7 @@ returns c =
     )
 
 -- src/places.rt:66:9
-add-i : tie.Need-add-i Inv-loop μ-loop
-add-i c = search needs
-
 -- src/places.rt:57:5
-loop-less : tie.Need-loop-less Inv-loop μ-loop
-loop-less c = search needs
-
 -- src/places.rt:57:5
 loop-again : tie.Need-loop-again Inv-loop μ-loop
 loop-again c =
@@ -199,17 +160,8 @@ loop-again c =
     )
 
 -- src/places.rt:69:9
-mul-at-2 : tie.Need-mul-at-2 Inv-loop μ-loop
-mul-at-2 c = search needs
-
 -- src/places.rt:69:9
-array-write-at-2 : tie.Need-array-write-at-2 Inv-loop μ-loop
-array-write-at-2 c = search needs
-
 -- src/places.rt:70:30
-add-t34 : tie.Need-add-t34 Inv-loop μ-loop
-add-t34 c = search needs
-
 -- src/places.rt:70:9
 returns-2 : tie.Need-returns-2 Inv-loop μ-loop
 returns-2 c =
@@ -244,28 +196,28 @@ sink-spec =
     (tie.spec
     Inv-loop
     μ-loop
-    mul-port
-    index-1-port
-    index-2-port
+    (λ c. search needs)
+    (λ c. search needs)
+    (λ c. search needs)
     loop-holds
-    mul-y
-    array-read-y
-    mul-lower
-    shared-slice-element-lower
+    (λ c. search needs)
+    (λ c. search needs)
+    (λ c. search needs)
+    (λ c. search needs)
     mul-lower-2
     shared-slice-element-lower-2
-    lower-requires
-    mul-at
-    array-write-at
+    (λ c κs. search needs)
+    (λ c. search needs)
+    (λ c. search needs)
     mul-if2
     index-1-if2
-    index-2-if2
+    (λ c. search needs)
     returns
-    add-i
-    loop-less
+    (λ c. search needs)
+    (λ c. search needs)
     loop-again
-    mul-at-2
-    array-write-at-2
-    add-t34
+    (λ c. search needs)
+    (λ c. search needs)
+    (λ c. search needs)
     returns-2
     returns-3)

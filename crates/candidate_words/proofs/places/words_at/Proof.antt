@@ -9,13 +9,7 @@ use Rattle.candidate_words.proofs.places.words_at.Reads as reads
 use Rattle.candidate_words.proofs.places.words_at.Lts as lts
 
 -- src/places.rt:143:17
-mul-i : tie.Need-mul-i
-mul-i c = search needs
-
 -- src/places.rt:143:17
-element-copy-out-i : tie.Need-element-copy-out-i
-element-copy-out-i c = search needs
-
 -- src/places.rt:144:16
 mul-result : tie.Need-mul-result
 mul-result c = let t = c .before in let h = t .before .pre .0 .each (t .before .args .k) (t .if1 .taken) .inside in omega arith
@@ -37,4 +31,4 @@ returns-2 c = simp (le-ltb _ _ (c .if1 .left))
 pub words-at-spec : {M : Type 1} → statement M
 words-at-spec =
     tie.close
-    (tie.spec mul-i element-copy-out-i mul-result shared-slice-copy-out-result returns returns-2)
+    (tie.spec (λ c. search needs) (λ c. search needs) mul-result shared-slice-copy-out-result returns returns-2)

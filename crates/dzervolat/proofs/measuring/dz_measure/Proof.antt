@@ -6,16 +6,10 @@ use borrow.Author.Needs.{needs}
 use Rattle.dzervolat.proofs.measuring.dz_measure.Statement.{statement}
 use Rattle.dzervolat.proofs.measuring.dz_measure.Tie as tie
 
-measured-requires : tie.Need-measured-requires
-measured-requires c κs = search needs
-
-put-measured-requires : tie.Need-put-measured-requires
-put-measured-requires c κs = search needs
-
 returns : tie.Need-returns
 returns c =
     let m = c .before in
     through measuredCode (λ (x : Measurement). measuredWords x (m .before .before .args .measured .now)) (m .measured .ensures) (c .put-measured .ensures)
 
 pub dz-measure-spec : {M : Type 1} → statement M
-dz-measure-spec = tie.close (tie.spec measured-requires put-measured-requires returns)
+dz-measure-spec = tie.close (tie.spec (λ c κs. search needs) (λ c κs. search needs) returns)

@@ -6,27 +6,6 @@ use borrow.Author.Needs.{needs}
 use Rattle.dzervolat.proofs.ranking.decided.Statement.{statement}
 use Rattle.dzervolat.proofs.ranking.decided.Tie as tie
 
-grandmaster-at-requires : tie.Need-grandmaster-at-requires
-grandmaster-at-requires c κs = search needs
-
-ranked-of-requires : tie.Need-ranked-of-requires
-ranked-of-requires c κs = search needs
-
-best-of-requires : tie.Need-best-of-requires
-best-of-requires c κs = search needs
-
-port-of-requires : tie.Need-port-of-requires
-port-of-requires c κs = search needs
-
-decide-requires : tie.Need-decide-requires
-decide-requires c κs = search needs
-
-decided-fits-requires : tie.Need-decided-fits-requires
-decided-fits-requires c κs = search needs
-
-answer-fitted-requires : tie.Need-answer-fitted-requires
-answer-fitted-requires c κs = search needs
-
 returns : tie.Need-returns
 returns c =
     let f = c .before in
@@ -42,11 +21,11 @@ pub decided-spec : {M : Type 1} → statement M
 decided-spec =
     tie.close
     (tie.spec
-    grandmaster-at-requires
-    ranked-of-requires
-    best-of-requires
-    port-of-requires
-    decide-requires
-    decided-fits-requires
-    answer-fitted-requires
+    (λ c κs. search needs)
+    (λ c κs. search needs)
+    (λ c κs. search needs)
+    (λ c κs. search needs)
+    (λ c κs. search needs)
+    (λ c κs. search needs)
+    (λ c κs. search needs)
     returns)

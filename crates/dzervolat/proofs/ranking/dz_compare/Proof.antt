@@ -13,12 +13,6 @@ use borrow.Author.Needs.{needs}
 use Rattle.dzervolat.proofs.ranking.dz_compare.Statement.{statement}
 use Rattle.dzervolat.proofs.ranking.dz_compare.Tie as tie
 
-sets-fit-requires : tie.Need-sets-fit-requires
-sets-fit-requires c κs = search needs
-
-code-requires : tie.Need-code-requires
-code-requires c κs = search needs
-
 returns : tie.Need-returns
 returns c =
     let t = c .before in
@@ -26,18 +20,6 @@ returns c =
     let a = f .before .args in
     let no = sym (sym (f .sets-fit .ensures) ∙ not-true _ (t .if1 .taken)) in
     (c .code .ensures ∙ (λ i. codeOf (outcomeFitted (no i) Done)), (λ i. pick (no i) (comparisonNumber (compareOf (setOf (a .a .now)) (setOf (a .b .now))) ∷ []) (a .answer .now)))
-
-set-of-requires : tie.Need-set-of-requires
-set-of-requires c κs = search needs
-
-set-of-requires-2 : tie.Need-set-of-requires-2
-set-of-requires-2 c κs = search needs
-
-compare-requires : tie.Need-compare-requires
-compare-requires c κs = search needs
-
-comparison-number-requires : tie.Need-comparison-number-requires
-comparison-number-requires c κs = search needs
 
 returns-2 : tie.Need-returns-2
 returns-2 c =
@@ -56,11 +38,11 @@ pub dz-compare-spec : {M : Type 1} → statement M
 dz-compare-spec =
     tie.close
     (tie.spec
-    sets-fit-requires
-    code-requires
+    (λ c κs. search needs)
+    (λ c κs. search needs)
     returns
-    set-of-requires
-    set-of-requires-2
-    compare-requires
-    comparison-number-requires
+    (λ c κs. search needs)
+    (λ c κs. search needs)
+    (λ c κs. search needs)
+    (λ c κs. search needs)
     returns-2)

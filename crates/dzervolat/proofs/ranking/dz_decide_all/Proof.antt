@@ -7,12 +7,6 @@ use borrow.Author.Needs.{needs}
 use Rattle.dzervolat.proofs.ranking.dz_decide_all.Statement.{statement}
 use Rattle.dzervolat.proofs.ranking.dz_decide_all.Tie as tie
 
-elected-requires : tie.Need-elected-requires
-elected-requires c κs = search needs
-
-put-ranking-requires : tie.Need-put-ranking-requires
-put-ranking-requires c κs = search needs
-
 returns : tie.Need-returns
 returns c =
     let e = c .before .before in
@@ -24,4 +18,4 @@ returns c =
     (packed .0, (e .elected .ensures .1, packed .1))
 
 pub dz-decide-all-spec : {M : Type 1} → statement M
-dz-decide-all-spec = tie.close (tie.spec elected-requires put-ranking-requires returns)
+dz-decide-all-spec = tie.close (tie.spec (λ c κs. search needs) (λ c κs. search needs) returns)

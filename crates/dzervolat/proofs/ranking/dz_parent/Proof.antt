@@ -6,16 +6,10 @@ use borrow.Author.Needs.{needs}
 use Rattle.dzervolat.proofs.ranking.dz_parent.Statement.{statement}
 use Rattle.dzervolat.proofs.ranking.dz_parent.Tie as tie
 
-parent-requires : tie.Need-parent-requires
-parent-requires c κs = search needs
-
-put-leader-requires : tie.Need-put-leader-requires
-put-leader-requires c κs = search needs
-
 returns : tie.Need-returns
 returns c =
     let p = c .before in
     through leaderCode (λ (x : Leader). leaderWords x (p .before .before .args .found .now)) (p .parent .ensures) (c .put-leader .ensures)
 
 pub dz-parent-spec : {M : Type 1} → statement M
-dz-parent-spec = tie.close (tie.spec parent-requires put-leader-requires returns)
+dz-parent-spec = tie.close (tie.spec (λ c κs. search needs) (λ c κs. search needs) returns)

@@ -7,24 +7,6 @@ use borrow.Author.Needs.{needs}
 use Rattle.dzervolat.proofs.ranking.parent.Statement.{statement}
 use Rattle.dzervolat.proofs.ranking.parent.Tie as tie
 
-grandmaster-at-requires : tie.Need-grandmaster-at-requires
-grandmaster-at-requires c κs = search needs
-
-ranked-of-requires : tie.Need-ranked-of-requires
-ranked-of-requires c κs = search needs
-
-parent-requires : tie.Need-parent-requires
-parent-requires c κs = search needs
-
-grandmaster-fits-requires : tie.Need-grandmaster-fits-requires
-grandmaster-fits-requires c κs = search needs
-
-list-fits-requires : tie.Need-list-fits-requires
-list-fits-requires c κs = search needs
-
-leader-fitted-requires : tie.Need-leader-fitted-requires
-leader-fitted-requires c κs = search needs
-
 returns : tie.Need-returns
 returns c =
     let f = c .before in
@@ -38,10 +20,10 @@ pub parent-spec : {M : Type 1} → statement M
 parent-spec =
     tie.close
     (tie.spec
-    grandmaster-at-requires
-    ranked-of-requires
-    parent-requires
-    grandmaster-fits-requires
-    list-fits-requires
-    leader-fitted-requires
+    (λ c κs. search needs)
+    (λ c κs. search needs)
+    (λ c κs. search needs)
+    (λ c κs. search needs)
+    (λ c κs. search needs)
+    (λ c κs. search needs)
     returns)

@@ -3,14 +3,8 @@ use borrow.Author.Needs.{needs}
 use Rattle.dzervolat.proofs.reading.dz_link_message.Statement.{statement}
 use Rattle.dzervolat.proofs.reading.dz_link_message.Tie as tie
 
-link-message-requires : tie.Need-link-message-requires
-link-message-requires c κs = search needs
-
-put-link-requires : tie.Need-put-link-requires
-put-link-requires c κs = search needs
-
 returns : tie.Need-returns
 returns c = rw (← c .before .link-message .ensures) (c .put-link .ensures)
 
 pub dz-link-message-spec : {M : Type 1} → statement M
-dz-link-message-spec = tie.close (tie.spec link-message-requires put-link-requires returns)
+dz-link-message-spec = tie.close (tie.spec (λ c κs. search needs) (λ c κs. search needs) returns)

@@ -4,14 +4,8 @@ use borrow.Author.Needs.{needs}
 use Rattle.dzervolat.proofs.reading.dz_lookup.Statement.{statement}
 use Rattle.dzervolat.proofs.reading.dz_lookup.Tie as tie
 
-looked-up-requires : tie.Need-looked-up-requires
-looked-up-requires c κs = search needs
-
 data-length-requires : tie.Need-data-length-requires
 data-length-requires c κs = found-within _ _ _ (c .looked-up .ensures)
-
-put-tlv-requires : tie.Need-put-tlv-requires
-put-tlv-requires c κs = search needs
 
 returns : tie.Need-returns
 returns c =
@@ -21,4 +15,4 @@ returns c =
 
 pub dz-lookup-spec : {M : Type 1} → statement M
 dz-lookup-spec =
-    tie.close (tie.spec looked-up-requires data-length-requires put-tlv-requires returns)
+    tie.close (tie.spec (λ c κs. search needs) data-length-requires (λ c κs. search needs) returns)

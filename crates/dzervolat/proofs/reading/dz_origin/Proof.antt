@@ -12,18 +12,6 @@ use Rattle.dzervolat.proofs.reading.dz_origin.Tie as tie
 says : (c : tie.After-enum-told) → let a = c .before .before .before .before .before .args in originCheck (a .magic) (a .sync .now) (a .follow .now) ≡ Done
 says c = sym (c .before .before .origin-says .ensures) ∙ c .enum-told .given .1
 
-origin-says-requires : tie.Need-origin-says-requires
-origin-says-requires c κs = search needs
-
-enum-known-x : tie.Need-enum-known-x
-enum-known-x c = search needs
-
-number-requires : tie.Need-number-requires
-number-requires c κs = search needs
-
-enum-told : tie.Need-enum-told
-enum-told c = search needs
-
 checked-origin-requires : tie.Need-checked-origin-requires
 checked-origin-requires c κs = origin-stamped _ _ _ (says (c .before))
 
@@ -47,10 +35,10 @@ pub dz-origin-spec : {M : Type 1} → statement M
 dz-origin-spec =
     tie.close
     (tie.spec
-    origin-says-requires
-    enum-known-x
-    number-requires
-    enum-told
+    (λ c κs. search needs)
+    (λ c. search needs)
+    (λ c κs. search needs)
+    (λ c. search needs)
     checked-origin-requires
     put-origin-requires
     returns

@@ -20,15 +20,6 @@ whole : (c : tie.Else1) → let b = c .before in let a = b .before .before .args
     (checkOf (a .magic) (a .octets .now) ≡ Done) × (b .sound-bounds .result ≡ boundsAt (a .octets .now))
 whole c = whole-bounds _ _ (c .before .sound-bounds .ensures) (c .if1 .left)
 
-sound-bounds-requires : tie.Need-sound-bounds-requires
-sound-bounds-requires c κs = search needs
-
-check-requires : tie.Need-check-requires
-check-requires c κs = search needs
-
-code-requires : tie.Need-code-requires
-code-requires c κs = search needs
-
 returns : tie.Need-returns
 returns c =
     let k = c .before in
@@ -61,9 +52,9 @@ pub dz-read-spec : {M : Type 1} → statement M
 dz-read-spec =
     tie.close
     (tie.spec
-    sound-bounds-requires
-    check-requires
-    code-requires
+    (λ c κs. search needs)
+    (λ c κs. search needs)
+    (λ c κs. search needs)
     returns
     sub-t11
     put-message-requires

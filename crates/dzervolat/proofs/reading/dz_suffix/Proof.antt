@@ -3,14 +3,8 @@ use borrow.Author.Needs.{needs}
 use Rattle.dzervolat.proofs.reading.dz_suffix.Statement.{statement}
 use Rattle.dzervolat.proofs.reading.dz_suffix.Tie as tie
 
-suffix-requires : tie.Need-suffix-requires
-suffix-requires c κs = search needs
-
-put-suffix-requires : tie.Need-put-suffix-requires
-put-suffix-requires c κs = search needs
-
 returns : tie.Need-returns
 returns c = rw (← c .before .suffix .ensures) (c .put-suffix .ensures)
 
 pub dz-suffix-spec : {M : Type 1} → statement M
-dz-suffix-spec = tie.close (tie.spec suffix-requires put-suffix-requires returns)
+dz-suffix-spec = tie.close (tie.spec (λ c κs. search needs) (λ c κs. search needs) returns)

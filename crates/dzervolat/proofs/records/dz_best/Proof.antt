@@ -4,17 +4,8 @@ use borrow.Author.Needs.{needs}
 use Rattle.dzervolat.proofs.records.dz_best.Statement.{statement}
 use Rattle.dzervolat.proofs.records.dz_best.Tie as tie
 
-port-of-requires : tie.Need-port-of-requires
-port-of-requires c κs = search needs
-
-best-requires : tie.Need-best-requires
-best-requires c κs = search needs
-
-put-asked-requires : tie.Need-put-asked-requires
-put-asked-requires c κs = search needs
-
 returns : tie.Need-returns
 returns c = rw (← c .before .before .before .port-of .ensures, ← c .before .best .ensures) (c .put-asked .ensures)
 
 pub dz-best-spec : {M : Type 1} → statement M
-dz-best-spec = tie.close (tie.spec port-of-requires best-requires put-asked-requires returns)
+dz-best-spec = tie.close (tie.spec (λ c κs. search needs) (λ c κs. search needs) (λ c κs. search needs) returns)

@@ -9,15 +9,6 @@ use borrow.Author.Needs.{needs}
 use Rattle.dzervolat.proofs.records.dz_set_interval.Statement.{statement}
 use Rattle.dzervolat.proofs.records.dz_set_interval.Tie as tie
 
-port-of-requires : tie.Need-port-of-requires
-port-of-requires c κs = search needs
-
-set-interval-requires : tie.Need-set-interval-requires
-set-interval-requires c κs = search needs
-
-code-requires : tie.Need-code-requires
-code-requires c κs = search needs
-
 returns : tie.Need-returns
 returns c =
     let s = c .before in
@@ -29,4 +20,4 @@ returns c =
 
 pub dz-set-interval-spec : {M : Type 1} → statement M
 dz-set-interval-spec =
-    tie.close (tie.spec port-of-requires set-interval-requires code-requires returns)
+    tie.close (tie.spec (λ c κs. search needs) (λ c κs. search needs) (λ c κs. search needs) returns)

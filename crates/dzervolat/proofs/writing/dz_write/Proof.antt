@@ -6,15 +6,6 @@ use borrow.Author.Needs.{needs}
 use Rattle.dzervolat.proofs.writing.dz_write.Statement.{statement}
 use Rattle.dzervolat.proofs.writing.dz_write.Tie as tie
 
-write-requires : tie.Need-write-requires
-write-requires c κs = search needs
-
-put-written-requires : tie.Need-put-written-requires
-put-written-requires c κs = search needs
-
-same-length : tie.Need-same-length
-same-length c = search needs
-
 returns : tie.Need-returns
 returns c =
     let w = c .before .before .before .before in
@@ -23,4 +14,4 @@ returns c =
     (c .put-written .ensures .0 ∙ ap writtenCode (e .0), (e .1, c .put-written .ensures .1 ∙ ap (λ (x : Written). writtenWords x l) (e .0)))
 
 pub dz-write-spec : {M : Type 1} → statement M
-dz-write-spec = tie.close (tie.spec write-requires put-written-requires same-length returns)
+dz-write-spec = tie.close (tie.spec (λ c κs. search needs) (λ c κs. search needs) (λ c. search needs) returns)

@@ -6,15 +6,6 @@ use borrow.Author.Needs.{needs}
 use Rattle.dzervolat.proofs.writing.dz_write_link.Statement.{statement}
 use Rattle.dzervolat.proofs.writing.dz_write_link.Tie as tie
 
-write-link-requires : tie.Need-write-link-requires
-write-link-requires c κs = search needs
-
-put-written-requires : tie.Need-put-written-requires
-put-written-requires c κs = search needs
-
-same-length : tie.Need-same-length
-same-length c = search needs
-
 returns : tie.Need-returns
 returns c =
     let w = c .before .before .before .before in
@@ -24,4 +15,4 @@ returns c =
 
 pub dz-write-link-spec : {M : Type 1} → statement M
 dz-write-link-spec =
-    tie.close (tie.spec write-link-requires put-written-requires same-length returns)
+    tie.close (tie.spec (λ c κs. search needs) (λ c κs. search needs) (λ c. search needs) returns)

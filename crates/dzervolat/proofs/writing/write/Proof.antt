@@ -4,19 +4,10 @@ use borrow.Author.Needs.{needs}
 use Rattle.dzervolat.proofs.writing.write.Statement.{statement}
 use Rattle.dzervolat.proofs.writing.write.Tie as tie
 
-is-whole-requires : tie.Need-is-whole-requires
-is-whole-requires c κs = search needs
-
 returns : tie.Need-returns
 returns c =
     let w = c .before in
     (is-refused _ _ (w .is-whole .ensures) _ _ (c .if1 .taken), is-refused _ _ (w .is-whole .ensures) _ _ (c .if1 .taken))
-
-write-requires : tie.Need-write-requires
-write-requires c κs = search needs
-
-same-length : tie.Need-same-length
-same-length c = search needs
 
 returns-2 : tie.Need-returns-2
 returns-2 c =
@@ -28,4 +19,4 @@ returns-2 c =
 pub write-spec : {M : Type 1} → statement M
 write-spec =
     tie.close
-    (tie.spec is-whole-requires returns write-requires same-length returns-2)
+    (tie.spec (λ c κs. search needs) returns (λ c κs. search needs) (λ c. search needs) returns-2)

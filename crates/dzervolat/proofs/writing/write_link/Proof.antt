@@ -7,28 +7,10 @@ use borrow.Author.Needs.{needs}
 use Rattle.dzervolat.proofs.writing.write_link.Statement.{statement}
 use Rattle.dzervolat.proofs.writing.write_link.Tie as tie
 
-is-signaling-requires : tie.Need-is-signaling-requires
-is-signaling-requires c κs = search needs
-
 returns : tie.Need-returns
 returns c =
     let w = c .before in
     (is-refused _ _ (w .is-signaling .ensures) _ _ (c .if1 .taken), is-refused _ _ (w .is-signaling .ensures) _ _ (c .if1 .taken))
-
-header-of-requires : tie.Need-header-of-requires
-header-of-requires c κs = search needs
-
-identity-at-requires : tie.Need-identity-at-requires
-identity-at-requires c κs = search needs
-
-link-message-of-requires : tie.Need-link-message-of-requires
-link-message-of-requires c κs = search needs
-
-write-link-requires : tie.Need-write-link-requires
-write-link-requires c κs = search needs
-
-same-length : tie.Need-same-length
-same-length c = search needs
 
 returns-2 : tie.Need-returns-2
 returns-2 c =
@@ -50,11 +32,11 @@ pub write-link-spec : {M : Type 1} → statement M
 write-link-spec =
     tie.close
     (tie.spec
-    is-signaling-requires
+    (λ c κs. search needs)
     returns
-    header-of-requires
-    identity-at-requires
-    link-message-of-requires
-    write-link-requires
-    same-length
+    (λ c κs. search needs)
+    (λ c κs. search needs)
+    (λ c κs. search needs)
+    (λ c κs. search needs)
+    (λ c. search needs)
     returns-2)

@@ -5,15 +5,6 @@ use borrow.Author.Needs.{needs}
 use Rattle.layout.proofs.put.eight.Statement.{statement}
 use Rattle.layout.proofs.put.eight.Tie as tie
 
-turned8-requires : tie.Need-turned8-requires
-turned8-requires c κs = search needs
-
-low8-requires : tie.Need-low8-requires
-low8-requires c κs = search needs
-
-same-length : tie.Need-same-length
-same-length c = search needs
-
 returns : tie.Need-returns
 returns c =
     let k = c .before .before in
@@ -22,4 +13,4 @@ returns c =
     k .low8 .ensures ∙ ap (over (s .out .now) (s .at)) (t .turned8 .ensures)
 
 pub eight-spec : {M : Type 1} → statement M
-eight-spec = tie.close (tie.spec turned8-requires low8-requires same-length returns)
+eight-spec = tie.close (tie.spec (λ c κs. search needs) (λ c κs. search needs) (λ c. search needs) returns)

@@ -8,24 +8,6 @@ use borrow.Author.Needs.{needs}
 use Rattle.layout.proofs.put.low2.Statement.{statement}
 use Rattle.layout.proofs.put.low2.Tie as tie
 
-cast-one : tie.Need-cast-one
-cast-one c = search needs
-
-one-requires : tie.Need-one-requires
-one-requires c κs = search needs
-
-add-one : tie.Need-add-one
-add-one c = search needs
-
-cast-one-2 : tie.Need-cast-one-2
-cast-one-2 c = search needs
-
-one-requires-2 : tie.Need-one-requires-2
-one-requires-2 c κs = search needs
-
-same-length : tie.Need-same-length
-same-length c = search needs
-
 returns : tie.Need-returns
 returns c =
     let k2 = c .before .before in
@@ -37,4 +19,4 @@ returns c =
 pub low2-spec : {M : Type 1} → statement M
 low2-spec =
     tie.close
-    (tie.spec cast-one one-requires add-one cast-one-2 one-requires-2 same-length returns)
+    (tie.spec (λ c. search needs) (λ c κs. search needs) (λ c. search needs) (λ c. search needs) (λ c κs. search needs) (λ c. search needs) returns)

@@ -9,18 +9,6 @@ use borrow.Author.Needs.{needs}
 use Rattle.layout.proofs.put.low4.Statement.{statement}
 use Rattle.layout.proofs.put.low4.Tie as tie
 
-low2-requires : tie.Need-low2-requires
-low2-requires c κs = search needs
-
-add-low2 : tie.Need-add-low2
-add-low2 c = search needs
-
-low2-requires-2 : tie.Need-low2-requires-2
-low2-requires-2 c κs = search needs
-
-same-length : tie.Need-same-length
-same-length c = search needs
-
 returns : tie.Need-returns
 returns c =
     let k2 = c .before .before in
@@ -30,4 +18,4 @@ returns c =
     put-two (s .out .now) (s .at) (omega arith) (lowOf 2 v []) (lowOf 2 (v / 256 / 256) []) refl refl refl (k1 .low2 .ensures) (k2 .low22 .ensures)
 
 pub low4-spec : {M : Type 1} → statement M
-low4-spec = tie.close (tie.spec low2-requires add-low2 low2-requires-2 same-length returns)
+low4-spec = tie.close (tie.spec (λ c κs. search needs) (λ c. search needs) (λ c κs. search needs) (λ c. search needs) returns)

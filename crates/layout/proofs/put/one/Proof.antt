@@ -4,14 +4,8 @@ use borrow.Author.Needs.{needs}
 use Rattle.layout.proofs.put.one.Statement.{statement}
 use Rattle.layout.proofs.put.one.Tie as tie
 
-slice-write-out : tie.Need-slice-write-out
-slice-write-out c = search needs
-
-same-length : tie.Need-same-length
-same-length c = search needs
-
 returns : tie.Need-returns
 returns c = put-one (c .args .out .now) (c .args .at) (c .args .x) (c .pre)
 
 pub one-spec : {M : Type 1} → statement M
-one-spec = tie.close (tie.spec slice-write-out same-length returns)
+one-spec = tie.close (tie.spec (λ c. search needs) (λ c. search needs) returns)

@@ -9,18 +9,6 @@ use borrow.Author.Needs.{needs}
 use Rattle.layout.proofs.put.six.Statement.{statement}
 use Rattle.layout.proofs.put.six.Tie as tie
 
-two-requires : tie.Need-two-requires
-two-requires c κs = search needs
-
-add-four : tie.Need-add-four
-add-four c = search needs
-
-four-requires : tie.Need-four-requires
-four-requires c κs = search needs
-
-same-length : tie.Need-same-length
-same-length c = search needs
-
 returns : tie.Need-returns
 returns c =
     let k2 = c .before .before in
@@ -30,4 +18,4 @@ returns c =
     put-two (s .out .now) (s .at) (omega arith) (octetsOf 2 (v / 256 / 256 / 256 / 256) []) (octetsOf 4 v []) refl refl refl (k1 .two .ensures) (k2 .four .ensures)
 
 pub six-spec : {M : Type 1} → statement M
-six-spec = tie.close (tie.spec two-requires add-four four-requires same-length returns)
+six-spec = tie.close (tie.spec (λ c κs. search needs) (λ c. search needs) (λ c κs. search needs) (λ c. search needs) returns)

@@ -6,14 +6,8 @@ use borrow.Author.Needs.{needs}
 use Rattle.layout.proofs.put.turned2.Statement.{statement}
 use Rattle.layout.proofs.put.turned2.Tie as tie
 
-mul-result : tie.Need-mul-result
-mul-result c = search needs
-
-add-result : tie.Need-add-result
-add-result c = search needs
-
 returns : tie.Need-returns
 returns c = let v = c .args .v in (low-two (v / 256 % 256) (v % 256) (omega arith) (omega arith), omega arith)
 
 pub turned2-spec : {M : Type 1} → statement M
-turned2-spec = tie.close (tie.spec mul-result add-result returns)
+turned2-spec = tie.close (tie.spec (λ c. search needs) (λ c. search needs) returns)

@@ -7,18 +7,6 @@ use borrow.Author.Needs.{needs}
 use Rattle.layout.proofs.put.turned4.Statement.{statement}
 use Rattle.layout.proofs.put.turned4.Tie as tie
 
-turned2-requires : tie.Need-turned2-requires
-turned2-requires c κs = search needs
-
-turned2-requires-2 : tie.Need-turned2-requires-2
-turned2-requires-2 c κs = search needs
-
-mul-result : tie.Need-mul-result
-mul-result c = search needs
-
-add-result : tie.Need-add-result
-add-result c = search needs
-
 returns : tie.Need-returns
 returns c =
     let lo = c in
@@ -28,4 +16,4 @@ returns c =
 
 pub turned4-spec : {M : Type 1} → statement M
 turned4-spec =
-    tie.close (tie.spec turned2-requires turned2-requires-2 mul-result add-result returns)
+    tie.close (tie.spec (λ c κs. search needs) (λ c κs. search needs) (λ c. search needs) (λ c. search needs) returns)

@@ -6,18 +6,6 @@ use borrow.Author.Needs.{needs}
 use Rattle.layout.proofs.put.turned8.Statement.{statement}
 use Rattle.layout.proofs.put.turned8.Tie as tie
 
-turned4-requires : tie.Need-turned4-requires
-turned4-requires c κs = search needs
-
-turned4-requires-2 : tie.Need-turned4-requires-2
-turned4-requires-2 c κs = search needs
-
-mul-result : tie.Need-mul-result
-mul-result c = search needs
-
-add-result : tie.Need-add-result
-add-result c = search needs
-
 returns : tie.Need-returns
 returns c =
     let lo = c in
@@ -27,4 +15,4 @@ returns c =
 
 pub turned8-spec : {M : Type 1} → statement M
 turned8-spec =
-    tie.close (tie.spec turned4-requires turned4-requires-2 mul-result add-result returns)
+    tie.close (tie.spec (λ c κs. search needs) (λ c κs. search needs) (λ c. search needs) (λ c. search needs) returns)

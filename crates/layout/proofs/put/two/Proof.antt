@@ -5,15 +5,6 @@ use borrow.Author.Needs.{needs}
 use Rattle.layout.proofs.put.two.Statement.{statement}
 use Rattle.layout.proofs.put.two.Tie as tie
 
-turned2-requires : tie.Need-turned2-requires
-turned2-requires c κs = search needs
-
-low2-requires : tie.Need-low2-requires
-low2-requires c κs = search needs
-
-same-length : tie.Need-same-length
-same-length c = search needs
-
 returns : tie.Need-returns
 returns c =
     let k = c .before .before in
@@ -22,4 +13,4 @@ returns c =
     k .low2 .ensures ∙ ap (over (s .out .now) (s .at)) (t .turned2 .ensures .0)
 
 pub two-spec : {M : Type 1} → statement M
-two-spec = tie.close (tie.spec turned2-requires low2-requires same-length returns)
+two-spec = tie.close (tie.spec (λ c κs. search needs) (λ c κs. search needs) (λ c. search needs) returns)

@@ -10,27 +10,15 @@ returns : tie.Need-returns
 unfolding announceLength refuse
 returns c = rw (lt-ltb _ _ (c .if1 .taken))
 
-shared-slice-read-if2 : tie.Need-shared-slice-read-if2
-shared-slice-read-if2 c = search needs
-
 returns-2 : tie.Need-returns-2
 unfolding announceLength refuse
 returns-2 c = rw (le-ltb _ _ (c .before .before .if1 .left), ne-eqb _ _ (c .if2 .taken))
-
-shared-slice-read-if3 : tie.Need-shared-slice-read-if3
-shared-slice-read-if3 c = search needs
 
 returns-3 : tie.Need-returns-3
 unfolding announceLength refuse
 returns-3 c =
     let e2 = c .before .before in
     rw (le-ltb _ _ (e2 .before .before .if1 .left), eq-eqb _ _ (e2 .if2 .left), ne-eqb _ _ (c .if3 .taken))
-
-u16-at-requires : tie.Need-u16-at-requires
-u16-at-requires c κs = search needs
-
-cast-length : tie.Need-cast-length
-cast-length c = search needs
 
 returns-4 : tie.Need-returns-4
 unfolding announceLength refuse
@@ -61,12 +49,12 @@ announce-length-spec =
     tie.close
     (tie.spec
     returns
-    shared-slice-read-if2
+    (λ c. search needs)
     returns-2
-    shared-slice-read-if3
+    (λ c. search needs)
     returns-3
-    u16-at-requires
-    cast-length
+    (λ c κs. search needs)
+    (λ c. search needs)
     returns-4
     returns-5
     returns-6)

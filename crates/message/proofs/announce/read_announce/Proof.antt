@@ -38,12 +38,6 @@ sound c =
     let f = c .before .before .before in
     rw (tail-is (f .before)) (sym (f .sound-suffix .ensures) ∙ c .before .p .given .1)
 
-announce-length-requires : tie.Need-announce-length-requires
-announce-length-requires c κs = search needs
-
-refusal-of-requires : tie.Need-refusal-of-requires
-refusal-of-requires c κs = search needs
-
 returns : tie.Need-returns
 returns c =
     ap announced.Refused (c .refusal-of .ensures)
@@ -51,9 +45,6 @@ returns c =
 
 u32-at-requires : tie.Need-u32-at-requires
 u32-at-requires c κs = let z = sizes c .0 .room in omega arith
-
-refusal-of-requires-2 : tie.Need-refusal-of-requires-2
-refusal-of-requires-2 c κs = search needs
 
 returns-2 : tie.Need-returns-2
 returns-2 c =
@@ -69,30 +60,12 @@ part-t-start c = let z = sizes (c .before .before) in let l = z .0 .least in ome
 part-t-end : tie.Need-part-t-end
 part-t-end c = let z = sizes (c .before .before) in let l = z .0 .lent in omega arith
 
-sound-suffix-requires : tie.Need-sound-suffix-requires
-sound-suffix-requires c κs = search needs
-
-enum-known-p : tie.Need-enum-known-p
-enum-known-p c = search needs
-
-enum-told : tie.Need-enum-told
-enum-told c = search needs
-
-refusal-of-requires-3 : tie.Need-refusal-of-requires-3
-refusal-of-requires-3 c κs = search needs
-
 returns-3 : tie.Need-returns-3
 returns-3 c =
     let f = c .before .before .before in
     ap announced.Refused (c .refusal-of3 .ensures)
     ∙ by-checks _ _
     (λ d k. faulty-check _ _ _ (sym (f .sound-suffix .ensures) ∙ c .before .enum-told .given .1) (rw (tail-is (f .before)) at (accepted _ _ d .tail)))
-
-suffix-at-requires : tie.Need-suffix-at-requires
-suffix-at-requires c κs = search needs
-
-wr-flags-requires : tie.Need-wr-flags-requires
-wr-flags-requires c κs = search needs
 
 header-of-requires : tie.Need-header-of-requires
 header-of-requires c κs =
@@ -129,22 +102,22 @@ pub read-announce-spec : {M : Type 1} → statement M
 read-announce-spec =
     tie.close
     (tie.spec
-    announce-length-requires
-    refusal-of-requires
+    (λ c κs. search needs)
+    (λ c κs. search needs)
     returns
     u32-at-requires
-    refusal-of-requires-2
+    (λ c κs. search needs)
     returns-2
     sub-t
     part-t-start
     part-t-end
-    sound-suffix-requires
-    enum-known-p
-    enum-told
-    refusal-of-requires-3
+    (λ c κs. search needs)
+    (λ c. search needs)
+    (λ c. search needs)
+    (λ c κs. search needs)
     returns-3
-    suffix-at-requires
-    wr-flags-requires
+    (λ c κs. search needs)
+    (λ c κs. search needs)
     header-of-requires
     announce-of-requires
     returns-4)

@@ -4,15 +4,6 @@ use borrow.Author.Needs.{needs}
 use Rattle.message.proofs.announce.refusal_of.Statement.{statement}
 use Rattle.message.proofs.announce.refusal_of.Tie as tie
 
-check-requires : tie.Need-check-requires
-check-requires c κs = search needs
-
-enum-known-x : tie.Need-enum-known-x
-enum-known-x c = search needs
-
-enum-told : tie.Need-enum-told
-enum-told c = search needs
-
 returns : tie.Need-returns
 unfolding refusalOf
 returns c = rw (← c .before .before .before .check .ensures, c .before .x .given .1)
@@ -22,4 +13,4 @@ unfolding refusalOf
 returns-2 c = rw (← c .before .before .check .ensures, c .enum-told .given .1)
 
 pub refusal-of-spec : {M : Type 1} → statement M
-refusal-of-spec = tie.close (tie.spec check-requires enum-known-x enum-told returns returns-2)
+refusal-of-spec = tie.close (tie.spec (λ c κs. search needs) (λ c. search needs) (λ c. search needs) returns returns-2)

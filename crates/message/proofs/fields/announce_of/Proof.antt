@@ -9,39 +9,6 @@ use borrow.Author.Needs.{needs}
 use Rattle.message.proofs.fields.announce_of.Statement.{statement}
 use Rattle.message.proofs.fields.announce_of.Tie as tie
 
-stamp-with-requires : tie.Need-stamp-with-requires
-stamp-with-requires c κs = search needs
-
-u16-at-requires : tie.Need-u16-at-requires
-u16-at-requires c κs = search needs
-
-signed16-requires : tie.Need-signed16-requires
-signed16-requires c κs = search needs
-
-shared-slice-read-t7 : tie.Need-shared-slice-read-t7
-shared-slice-read-t7 c = search needs
-
-shared-slice-read-t9 : tie.Need-shared-slice-read-t9
-shared-slice-read-t9 c = search needs
-
-shared-slice-read-t11 : tie.Need-shared-slice-read-t11
-shared-slice-read-t11 c = search needs
-
-u16-at-requires-2 : tie.Need-u16-at-requires-2
-u16-at-requires-2 c κs = search needs
-
-shared-slice-read-t14 : tie.Need-shared-slice-read-t14
-shared-slice-read-t14 c = search needs
-
-u64-at-requires : tie.Need-u64-at-requires
-u64-at-requires c κs = search needs
-
-u16-at-requires-3 : tie.Need-u16-at-requires-3
-u16-at-requires-3 c κs = search needs
-
-shared-slice-read-t18 : tie.Need-shared-slice-read-t18
-shared-slice-read-t18 c = search needs
-
 returns : tie.Need-returns
 unfolding announceOf
 returns c =
@@ -69,15 +36,15 @@ pub announce-of-spec : {M : Type 1} → statement M
 announce-of-spec =
     tie.close
     (tie.spec
-    stamp-with-requires
-    u16-at-requires
-    signed16-requires
-    shared-slice-read-t7
-    shared-slice-read-t9
-    shared-slice-read-t11
-    u16-at-requires-2
-    shared-slice-read-t14
-    u64-at-requires
-    u16-at-requires-3
-    shared-slice-read-t18
+    (λ c κs. search needs)
+    (λ c κs. search needs)
+    (λ c κs. search needs)
+    (λ c. search needs)
+    (λ c. search needs)
+    (λ c. search needs)
+    (λ c κs. search needs)
+    (λ c. search needs)
+    (λ c κs. search needs)
+    (λ c κs. search needs)
+    (λ c. search needs)
     returns)

@@ -7,33 +7,15 @@ use borrow.Author.Needs.{needs}
 use Rattle.message.proofs.fields.body_of.Statement.{statement}
 use Rattle.message.proofs.fields.body_of.Tie as tie
 
-shared-slice-read-kind : tie.Need-shared-slice-read-kind
-shared-slice-read-kind c = search needs
-
-stamp-of-requires : tie.Need-stamp-of-requires
-stamp-of-requires c κs = search needs
-
-stamp-of-requires-2 : tie.Need-stamp-of-requires-2
-stamp-of-requires-2 c κs = search needs
-
-stamp-of-requires-3 : tie.Need-stamp-of-requires-3
-stamp-of-requires-3 c κs = search needs
-
 delay-resp-of-requires : tie.Need-delay-resp-of-requires
 unfolding fixedSize
 delay-resp-of-requires c κs = rw (c .match .keys4) at (c .before .before .before .pre .1)
-
-u32-at-requires : tie.Need-u32-at-requires
-u32-at-requires c κs = search needs
 
 announce-of-requires : tie.Need-announce-of-requires
 unfolding fixedSize
 announce-of-requires c κs =
     let k = c .before in
     (rw (k .match .keys5) at (k .before .before .before .pre .1), c .u32-at .ensures)
-
-identity-at-requires : tie.Need-identity-at-requires
-identity-at-requires c κs = search needs
 
 returns : tie.Need-returns
 unfolding bodyOf
@@ -65,14 +47,14 @@ pub body-of-spec : {M : Type 1} → statement M
 body-of-spec =
     tie.close
     (tie.spec
-    shared-slice-read-kind
-    stamp-of-requires
-    stamp-of-requires-2
-    stamp-of-requires-3
+    (λ c. search needs)
+    (λ c κs. search needs)
+    (λ c κs. search needs)
+    (λ c κs. search needs)
     delay-resp-of-requires
-    u32-at-requires
+    (λ c κs. search needs)
     announce-of-requires
-    identity-at-requires
+    (λ c κs. search needs)
     returns
     returns-2
     returns-3

@@ -3,14 +3,8 @@ use borrow.Author.Needs.{needs}
 use Rattle.message.proofs.fields.delay_resp_of.Statement.{statement}
 use Rattle.message.proofs.fields.delay_resp_of.Tie as tie
 
-stamp-of-requires : tie.Need-stamp-of-requires
-stamp-of-requires c κs = search needs
-
-identity-at-requires : tie.Need-identity-at-requires
-identity-at-requires c κs = search needs
-
 returns : tie.Need-returns
 returns c = λ i. record { receive = c .before .stamp-of .ensures i; requester = c .identity-at .ensures i }
 
 pub delay-resp-of-spec : {M : Type 1} → statement M
-delay-resp-of-spec = tie.close (tie.spec stamp-of-requires identity-at-requires returns)
+delay-resp-of-spec = tie.close (tie.spec (λ c κs. search needs) (λ c κs. search needs) returns)

@@ -10,33 +10,6 @@ use borrow.Author.Needs.{needs}
 use Rattle.message.proofs.fields.header_of.Statement.{statement}
 use Rattle.message.proofs.fields.header_of.Tie as tie
 
-shared-slice-read-t3 : tie.Need-shared-slice-read-t3
-shared-slice-read-t3 c = search needs
-
-shared-slice-read-t6 : tie.Need-shared-slice-read-t6
-shared-slice-read-t6 c = search needs
-
-u16-at-requires : tie.Need-u16-at-requires
-u16-at-requires c κs = search needs
-
-u64-at-requires : tie.Need-u64-at-requires
-u64-at-requires c κs = search needs
-
-signed64-requires : tie.Need-signed64-requires
-signed64-requires c κs = search needs
-
-identity-at-requires : tie.Need-identity-at-requires
-identity-at-requires c κs = search needs
-
-u16-at-requires-2 : tie.Need-u16-at-requires-2
-u16-at-requires-2 c κs = search needs
-
-shared-slice-read-signed8 : tie.Need-shared-slice-read-signed8
-shared-slice-read-signed8 c = search needs
-
-signed8-requires : tie.Need-signed8-requires
-signed8-requires c κs = search needs
-
 returns : tie.Need-returns
 unfolding headerOf
 returns c =
@@ -60,13 +33,13 @@ pub header-of-spec : {M : Type 1} → statement M
 header-of-spec =
     tie.close
     (tie.spec
-    shared-slice-read-t3
-    shared-slice-read-t6
-    u16-at-requires
-    u64-at-requires
-    signed64-requires
-    identity-at-requires
-    u16-at-requires-2
-    shared-slice-read-signed8
-    signed8-requires
+    (λ c. search needs)
+    (λ c. search needs)
+    (λ c κs. search needs)
+    (λ c κs. search needs)
+    (λ c κs. search needs)
+    (λ c κs. search needs)
+    (λ c κs. search needs)
+    (λ c. search needs)
+    (λ c κs. search needs)
     returns)

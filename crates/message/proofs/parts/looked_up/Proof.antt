@@ -44,15 +44,6 @@ done c =
     let t = told (c .before .before .before .before .before) in
     stamped _ _ (t .0) ∙ rw (part-tail _ (t .1)) at (sound c .0)
 
-fixed-bounds-requires : tie.Need-fixed-bounds-requires
-fixed-bounds-requires c κs = search needs
-
-check-requires : tie.Need-check-requires
-check-requires c κs = search needs
-
-unread-requires : tie.Need-unread-requires
-unread-requires c κs = search needs
-
 returns : tie.Need-returns
 returns c =
     let k = c .before in
@@ -70,21 +61,6 @@ part-t-start c = let l = least c in omega arith
 part-t-end : tie.Need-part-t-end
 part-t-end c = lent c
 
-sound-place-requires : tie.Need-sound-place-requires
-sound-place-requires c κs = search needs
-
-enum-known-p : tie.Need-enum-known-p
-enum-known-p c = search needs
-
-enum-told : tie.Need-enum-told
-enum-told c = search needs
-
-check-requires-2 : tie.Need-check-requires-2
-check-requires-2 c κs = search needs
-
-unread-requires-2 : tie.Need-unread-requires-2
-unread-requires-2 c κs = search needs
-
 returns-2 : tie.Need-returns-2
 returns-2 c =
     let k = c .before in
@@ -95,9 +71,6 @@ returns-2 c =
     c .unread2 .ensures
     ∙ ap (λ (x : Outcome). by x lookup.Refused lookup.Absent) (k .check2 .ensures)
     ∙ not-looked-up _ _ _ (λ d. n (rw (part-tail _ (t .1)) (sym (stamped _ _ (t .0)) ∙ d)))
-
-add-t17 : tie.Need-add-t17
-add-t17 c = search needs
 
 add-t18 : tie.Need-add-t18
 add-t18 c =
@@ -131,20 +104,20 @@ pub looked-up-spec : {M : Type 1} → statement M
 looked-up-spec =
     tie.close
     (tie.spec
-    fixed-bounds-requires
-    check-requires
-    unread-requires
+    (λ c κs. search needs)
+    (λ c κs. search needs)
+    (λ c κs. search needs)
     returns
     sub-t
     part-t-start
     part-t-end
-    sound-place-requires
-    enum-known-p
-    enum-told
-    check-requires-2
-    unread-requires-2
+    (λ c κs. search needs)
+    (λ c. search needs)
+    (λ c. search needs)
+    (λ c κs. search needs)
+    (λ c κs. search needs)
     returns-2
-    add-t17
+    (λ c. search needs)
     add-t18
     returns-3
     returns-4)

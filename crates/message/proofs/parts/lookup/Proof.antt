@@ -4,15 +4,9 @@ use borrow.Author.Needs.{needs}
 use Rattle.message.proofs.parts.lookup.Statement.{statement}
 use Rattle.message.proofs.parts.lookup.Tie as tie
 
-tail-requires : tie.Need-tail-requires
-tail-requires c κs = search needs
-
-data-of-requires : tie.Need-data-of-requires
-data-of-requires c κs = search needs
-
 returns : tie.Need-returns
 unfolding dataIn
 returns c = rw (← c .before .tail .ensures) (c .data-of .ensures)
 
 pub lookup-spec : {M : Type 1} → statement M
-lookup-spec = tie.close (tie.spec tail-requires data-of-requires returns)
+lookup-spec = tie.close (tie.spec (λ c κs. search needs) (λ c κs. search needs) returns)

@@ -12,18 +12,6 @@ use Rattle.message.proofs.parts.tail.Tie as tie
 done : (c : tie.After-enum-told2) → let a = c .before .before .before .before .args in checkOf (a .magic) (a .s .now) ≡ Done
 done c = sym (c .before .before .check .ensures) ∙ c .enum-told2 .given .1
 
-check-requires : tie.Need-check-requires
-check-requires c κs = search needs
-
-enum-told : tie.Need-enum-told
-enum-told c = search needs
-
-slice-aggregate-result : tie.Need-slice-aggregate-result
-slice-aggregate-result c = search needs
-
-enum-told-2 : tie.Need-enum-told-2
-enum-told-2 c = search needs
-
 checked-tail-requires : tie.Need-checked-tail-requires
 checked-tail-requires c κs = bounded _ _ (done c)
 
@@ -39,10 +27,10 @@ pub tail-spec : {M : Type 1} → statement M
 tail-spec =
     tie.close
     (tie.spec
-    check-requires
-    enum-told
-    slice-aggregate-result
-    enum-told-2
+    (λ c κs. search needs)
+    (λ c. search needs)
+    (λ c. search needs)
+    (λ c. search needs)
     checked-tail-requires
     returns
     returns-2)

@@ -7,11 +7,8 @@ use Rattle.message.proofs.reading.bad_stamp.Tie as tie
 returns : tie.Need-returns
 returns c = rw (eq-eqb _ _ (c .if1 .taken))
 
-u32-at-requires : tie.Need-u32-at-requires
-u32-at-requires c κs = search needs
-
 returns-2 : tie.Need-returns-2
 returns-2 c = rw (ne-eqb _ _ (c .before .if1 .left), ← c .u32-at .ensures)
 
 pub bad-stamp-spec : {M : Type 1} → statement M
-bad-stamp-spec = tie.close (tie.spec returns u32-at-requires returns-2)
+bad-stamp-spec = tie.close (tie.spec returns (λ c κs. search needs) returns-2)

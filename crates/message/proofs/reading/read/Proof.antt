@@ -13,15 +13,6 @@ use Rattle.message.proofs.reading.read.Tie as tie
 done : (c : tie.After-enum-told) → let a = c .before .before .before .before .args in checkOf (a .magic) (a .s .now) ≡ Done
 done c = sym (c .before .before .check .ensures) ∙ c .enum-told .given .1
 
-check-requires : tie.Need-check-requires
-check-requires c κs = search needs
-
-enum-known-x : tie.Need-enum-known-x
-enum-known-x c = search needs
-
-enum-told : tie.Need-enum-told
-enum-told c = search needs
-
 header-of-requires : tie.Need-header-of-requires
 header-of-requires c κs = let f = fixed-part _ _ (done c) in omega arith
 
@@ -42,9 +33,9 @@ pub read-spec : {M : Type 1} → statement M
 read-spec =
     tie.close
     (tie.spec
-    check-requires
-    enum-known-x
-    enum-told
+    (λ c κs. search needs)
+    (λ c. search needs)
+    (λ c. search needs)
     header-of-requires
     body-of-requires
     returns

@@ -19,9 +19,6 @@ told c = told-bounds _ (c .if1 .left) (sym (c .before .fixed-bounds .ensures))
 least : (c : tie.Else1) → let b = c .before .fixed-bounds .result in b .size ≤ b .length
 least c = let t = told c in rw (t .1) (t .0 .0 .0 .1)
 
-fixed-bounds-requires : tie.Need-fixed-bounds-requires
-fixed-bounds-requires c κs = search needs
-
 returns : tie.Need-returns
 returns c =
     let b = c .before in
@@ -35,9 +32,6 @@ part-is-sound-start c = let l = least c in omega arith
 
 part-is-sound-end : tie.Need-part-is-sound-end
 part-is-sound-end c = let t = told c in let l = t .0 .0 .1 in let e = ap (λ (x : Bounds). x .length) (t .1) in omega arith
-
-is-sound-requires : tie.Need-is-sound-requires
-is-sound-requires c κs = search needs
 
 returns-2 : tie.Need-returns-2
 unfolding soundBounds
@@ -58,11 +52,11 @@ pub sound-bounds-spec : {M : Type 1} → statement M
 sound-bounds-spec =
     tie.close
     (tie.spec
-    fixed-bounds-requires
+    (λ c κs. search needs)
     returns
     sub-is-sound
     part-is-sound-start
     part-is-sound-end
-    is-sound-requires
+    (λ c κs. search needs)
     returns-2
     returns-3)

@@ -12,44 +12,8 @@ use borrow.Author.Needs.{needs}
 use Rattle.message_words.proofs.reading.put_announce.Statement.{statement}
 use Rattle.message_words.proofs.reading.put_announce.Tie as tie
 
-u48-at-requires : tie.Need-u48-at-requires
-u48-at-requires c κs = search needs
-
-slice-write-out : tie.Need-slice-write-out
-slice-write-out c = search needs
-
-u32-at-requires : tie.Need-u32-at-requires
-u32-at-requires c κs = search needs
-
-cast-out : tie.Need-cast-out
-cast-out c = search needs
-
-slice-write-out-2 : tie.Need-slice-write-out-2
-slice-write-out-2 c = search needs
-
-u16-at-requires : tie.Need-u16-at-requires
-u16-at-requires c κs = search needs
-
-signed16-requires : tie.Need-signed16-requires
-signed16-requires c κs = search needs
-
-word-of-i16-requires : tie.Need-word-of-i16-requires
-word-of-i16-requires c κs = search needs
-
-slice-write-out-3 : tie.Need-slice-write-out-3
-slice-write-out-3 c = search needs
-
-shared-slice-read-out : tie.Need-shared-slice-read-out
-shared-slice-read-out c = search needs
-
 cast-out-2 : tie.Need-cast-out-2
 cast-out-2 c = omega (arith, c .shared-slice-known2 .given 47)
-
-slice-write-out-4 : tie.Need-slice-write-out-4
-slice-write-out-4 c = search needs
-
-shared-slice-read-out-2 : tie.Need-shared-slice-read-out-2
-shared-slice-read-out-2 c = search needs
 
 cast-out-3 : tie.Need-cast-out-3
 cast-out-3 c = omega (arith, c .shared-slice-known3 .given 48)
@@ -57,26 +21,14 @@ cast-out-3 c = omega (arith, c .shared-slice-known3 .given 48)
 slice-write-out-5 : tie.Need-slice-write-out-5
 slice-write-out-5 c = simp length-set (omega arith)
 
-shared-slice-read-out-3 : tie.Need-shared-slice-read-out-3
-shared-slice-read-out-3 c = search needs
-
 cast-out-4 : tie.Need-cast-out-4
 cast-out-4 c = omega (arith, c .shared-slice-known4 .given 49)
 
 slice-write-out-6 : tie.Need-slice-write-out-6
 slice-write-out-6 c = simp length-set (omega arith)
 
-u16-at-requires-2 : tie.Need-u16-at-requires-2
-u16-at-requires-2 c κs = search needs
-
-cast-out-5 : tie.Need-cast-out-5
-cast-out-5 c = search needs
-
 slice-write-out-7 : tie.Need-slice-write-out-7
 slice-write-out-7 c = simp length-set (omega arith)
-
-shared-slice-read-out-4 : tie.Need-shared-slice-read-out-4
-shared-slice-read-out-4 c = search needs
 
 cast-out-6 : tie.Need-cast-out-6
 cast-out-6 c = omega (arith, c .shared-slice-known5 .given 52)
@@ -84,23 +36,11 @@ cast-out-6 c = omega (arith, c .shared-slice-known5 .given 52)
 slice-write-out-8 : tie.Need-slice-write-out-8
 slice-write-out-8 c = simp length-set (omega arith)
 
-u64-at-requires : tie.Need-u64-at-requires
-u64-at-requires c κs = search needs
-
 slice-write-out-9 : tie.Need-slice-write-out-9
 slice-write-out-9 c = simp length-set (omega arith)
 
-u16-at-requires-3 : tie.Need-u16-at-requires-3
-u16-at-requires-3 c κs = search needs
-
-cast-out-7 : tie.Need-cast-out-7
-cast-out-7 c = search needs
-
 slice-write-out-10 : tie.Need-slice-write-out-10
 slice-write-out-10 c = simp length-set (omega arith)
-
-shared-slice-read-out-5 : tie.Need-shared-slice-read-out-5
-shared-slice-read-out-5 c = search needs
 
 cast-out-8 : tie.Need-cast-out-8
 cast-out-8 c = omega (arith, c .shared-slice-known6 .given 63)
@@ -146,36 +86,36 @@ pub put-announce-spec : {M : Type 1} → statement M
 put-announce-spec =
     tie.close
     (tie.spec
-    u48-at-requires
-    slice-write-out
-    u32-at-requires
-    cast-out
-    slice-write-out-2
-    u16-at-requires
-    signed16-requires
-    word-of-i16-requires
-    slice-write-out-3
-    shared-slice-read-out
+    (λ c κs. search needs)
+    (λ c. search needs)
+    (λ c κs. search needs)
+    (λ c. search needs)
+    (λ c. search needs)
+    (λ c κs. search needs)
+    (λ c κs. search needs)
+    (λ c κs. search needs)
+    (λ c. search needs)
+    (λ c. search needs)
     cast-out-2
-    slice-write-out-4
-    shared-slice-read-out-2
+    (λ c. search needs)
+    (λ c. search needs)
     cast-out-3
     slice-write-out-5
-    shared-slice-read-out-3
+    (λ c. search needs)
     cast-out-4
     slice-write-out-6
-    u16-at-requires-2
-    cast-out-5
+    (λ c κs. search needs)
+    (λ c. search needs)
     slice-write-out-7
-    shared-slice-read-out-4
+    (λ c. search needs)
     cast-out-6
     slice-write-out-8
-    u64-at-requires
+    (λ c κs. search needs)
     slice-write-out-9
-    u16-at-requires-3
-    cast-out-7
+    (λ c κs. search needs)
+    (λ c. search needs)
     slice-write-out-10
-    shared-slice-read-out-5
+    (λ c. search needs)
     cast-out-8
     slice-write-out-11
     same-length

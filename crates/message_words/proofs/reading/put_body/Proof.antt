@@ -7,18 +7,6 @@ use borrow.Author.Needs.{needs}
 use Rattle.message_words.proofs.reading.put_body.Statement.{statement}
 use Rattle.message_words.proofs.reading.put_body.Tie as tie
 
-shared-slice-read-kind : tie.Need-shared-slice-read-kind
-shared-slice-read-kind c = search needs
-
-put-stamp-requires : tie.Need-put-stamp-requires
-put-stamp-requires c κs = search needs
-
-put-stamp-requires-2 : tie.Need-put-stamp-requires-2
-put-stamp-requires-2 c κs = search needs
-
-put-stamp-requires-3 : tie.Need-put-stamp-requires-3
-put-stamp-requires-3 c κs = search needs
-
 put-resp-requires : tie.Need-put-resp-requires
 unfolding fixedSize
 put-resp-requires c κs = let k = c .before in let p = k .before .before .before .before .pre in (p .0, rw (k .match .keys4) at (p .1 .1))
@@ -27,20 +15,11 @@ put-announce-requires : tie.Need-put-announce-requires
 unfolding fixedSize
 put-announce-requires c κs = let k = c .before in let p = k .before .before .before .before .pre in (p .0, rw (k .match .keys5) at (p .1 .1))
 
-put-target-requires : tie.Need-put-target-requires
-put-target-requires c κs = search needs
-
-same-length : tie.Need-same-length
-same-length c = search needs
-
 returns : tie.Need-returns
 unfolding bodyOf bodyWords
 returns c =
     let p = c .before .before in
     p .put-stamp .ensures ∙ rw (p .before .before .match .keys1)
-
-same-length-2 : tie.Need-same-length-2
-same-length-2 c = search needs
 
 returns-2 : tie.Need-returns-2
 unfolding bodyOf bodyWords
@@ -48,17 +27,11 @@ returns-2 c =
     let p = c .before .before in
     p .put-stamp2 .ensures ∙ rw (p .before .before .match .keys2)
 
-same-length-3 : tie.Need-same-length-3
-same-length-3 c = search needs
-
 returns-3 : tie.Need-returns-3
 unfolding bodyOf bodyWords
 returns-3 c =
     let p = c .before .before in
     p .put-stamp3 .ensures ∙ rw (p .before .before .match .keys3)
-
-same-length-4 : tie.Need-same-length-4
-same-length-4 c = search needs
 
 returns-4 : tie.Need-returns-4
 unfolding bodyOf bodyWords
@@ -66,17 +39,11 @@ returns-4 c =
     let p = c .before .before in
     p .put-resp .ensures ∙ rw (p .before .before .match .keys4)
 
-same-length-5 : tie.Need-same-length-5
-same-length-5 c = search needs
-
 returns-5 : tie.Need-returns-5
 unfolding bodyOf bodyWords
 returns-5 c =
     let p = c .before .before in
     p .put-announce .ensures ∙ rw (p .before .before .match .keys5)
-
-same-length-6 : tie.Need-same-length-6
-same-length-6 c = search needs
 
 returns-6 : tie.Need-returns-6
 unfolding bodyOf bodyWords
@@ -90,22 +57,22 @@ pub put-body-spec : {M : Type 1} → statement M
 put-body-spec =
     tie.close
     (tie.spec
-    shared-slice-read-kind
-    put-stamp-requires
-    put-stamp-requires-2
-    put-stamp-requires-3
+    (λ c. search needs)
+    (λ c κs. search needs)
+    (λ c κs. search needs)
+    (λ c κs. search needs)
     put-resp-requires
     put-announce-requires
-    put-target-requires
-    same-length
+    (λ c κs. search needs)
+    (λ c. search needs)
     returns
-    same-length-2
+    (λ c. search needs)
     returns-2
-    same-length-3
+    (λ c. search needs)
     returns-3
-    same-length-4
+    (λ c. search needs)
     returns-4
-    same-length-5
+    (λ c. search needs)
     returns-5
-    same-length-6
+    (λ c. search needs)
     returns-6)

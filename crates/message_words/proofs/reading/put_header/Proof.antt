@@ -14,80 +14,23 @@ use borrow.Author.Needs.{needs}
 use Rattle.message_words.proofs.reading.put_header.Statement.{statement}
 use Rattle.message_words.proofs.reading.put_header.Tie as tie
 
-shared-slice-read-out : tie.Need-shared-slice-read-out
-shared-slice-read-out c = search needs
-
-cast-out : tie.Need-cast-out
-cast-out c = search needs
-
-slice-write-out : tie.Need-slice-write-out
-slice-write-out c = search needs
-
-shared-slice-read-out-2 : tie.Need-shared-slice-read-out-2
-shared-slice-read-out-2 c = search needs
-
 cast-out-2 : tie.Need-cast-out-2
 cast-out-2 c = omega (arith, c .shared-slice-known3 .given 0)
-
-slice-write-out-2 : tie.Need-slice-write-out-2
-slice-write-out-2 c = search needs
-
-shared-slice-read-out-3 : tie.Need-shared-slice-read-out-3
-shared-slice-read-out-3 c = search needs
 
 cast-out-3 : tie.Need-cast-out-3
 cast-out-3 c = omega (arith, c .shared-slice-known4 .given 4)
 
-slice-write-out-3 : tie.Need-slice-write-out-3
-slice-write-out-3 c = search needs
-
-u16-at-requires : tie.Need-u16-at-requires
-u16-at-requires c κs = search needs
-
-cast-out-4 : tie.Need-cast-out-4
-cast-out-4 c = search needs
-
-slice-write-out-4 : tie.Need-slice-write-out-4
-slice-write-out-4 c = search needs
-
-u64-at-requires : tie.Need-u64-at-requires
-u64-at-requires c κs = search needs
-
 slice-write-out-5 : tie.Need-slice-write-out-5
 slice-write-out-5 c = simp length-set (omega arith)
-
-u64-at-requires-2 : tie.Need-u64-at-requires-2
-u64-at-requires-2 c κs = search needs
 
 slice-write-out-6 : tie.Need-slice-write-out-6
 slice-write-out-6 c = simp length-set (omega arith)
 
-u16-at-requires-2 : tie.Need-u16-at-requires-2
-u16-at-requires-2 c κs = search needs
-
-cast-out-5 : tie.Need-cast-out-5
-cast-out-5 c = search needs
-
 slice-write-out-7 : tie.Need-slice-write-out-7
 slice-write-out-7 c = simp length-set (omega arith)
 
-u16-at-requires-3 : tie.Need-u16-at-requires-3
-u16-at-requires-3 c κs = search needs
-
-cast-out-6 : tie.Need-cast-out-6
-cast-out-6 c = search needs
-
 slice-write-out-8 : tie.Need-slice-write-out-8
 slice-write-out-8 c = simp length-set (omega arith)
-
-shared-slice-read-signed8 : tie.Need-shared-slice-read-signed8
-shared-slice-read-signed8 c = search needs
-
-signed8-requires : tie.Need-signed8-requires
-signed8-requires c κs = search needs
-
-word-of-i8-requires : tie.Need-word-of-i8-requires
-word-of-i8-requires c κs = search needs
 
 slice-write-out-9 : tie.Need-slice-write-out-9
 slice-write-out-9 c = simp length-set (omega arith)
@@ -127,31 +70,31 @@ pub put-header-spec : {M : Type 1} → statement M
 put-header-spec =
     tie.close
     (tie.spec
-    shared-slice-read-out
-    cast-out
-    slice-write-out
-    shared-slice-read-out-2
+    (λ c. search needs)
+    (λ c. search needs)
+    (λ c. search needs)
+    (λ c. search needs)
     cast-out-2
-    slice-write-out-2
-    shared-slice-read-out-3
+    (λ c. search needs)
+    (λ c. search needs)
     cast-out-3
-    slice-write-out-3
-    u16-at-requires
-    cast-out-4
-    slice-write-out-4
-    u64-at-requires
+    (λ c. search needs)
+    (λ c κs. search needs)
+    (λ c. search needs)
+    (λ c. search needs)
+    (λ c κs. search needs)
     slice-write-out-5
-    u64-at-requires-2
+    (λ c κs. search needs)
     slice-write-out-6
-    u16-at-requires-2
-    cast-out-5
+    (λ c κs. search needs)
+    (λ c. search needs)
     slice-write-out-7
-    u16-at-requires-3
-    cast-out-6
+    (λ c κs. search needs)
+    (λ c. search needs)
     slice-write-out-8
-    shared-slice-read-signed8
-    signed8-requires
-    word-of-i8-requires
+    (λ c. search needs)
+    (λ c κs. search needs)
+    (λ c κs. search needs)
     slice-write-out-9
     same-length
     returns)

@@ -6,18 +6,6 @@ use borrow.Author.Needs.{needs}
 use Rattle.message_words.proofs.reading.put_pair.Statement.{statement}
 use Rattle.message_words.proofs.reading.put_pair.Tie as tie
 
-slice-write-out : tie.Need-slice-write-out
-slice-write-out c = search needs
-
-slice-write-out-2 : tie.Need-slice-write-out-2
-slice-write-out-2 c = search needs
-
-slice-write-out-3 : tie.Need-slice-write-out-3
-slice-write-out-3 c = search needs
-
-slice-write-out-4 : tie.Need-slice-write-out-4
-slice-write-out-4 c = search needs
-
 slice-write-out-5 : tie.Need-slice-write-out-5
 slice-write-out-5 c = simp length-set (omega arith)
 
@@ -39,9 +27,6 @@ slice-write-out-10 c = simp length-set (omega arith)
 slice-write-out-11 : tie.Need-slice-write-out-11
 slice-write-out-11 c = simp length-set (omega arith)
 
-same-length : tie.Need-same-length
-same-length c = search needs
-
 returns : tie.Need-returns
 returns c = eleven (c .args .out .now) (c .pre) _ _ _ _ _ _ _ _ _ _ _
 
@@ -49,10 +34,10 @@ pub put-pair-spec : {M : Type 1} → statement M
 put-pair-spec =
     tie.close
     (tie.spec
-    slice-write-out
-    slice-write-out-2
-    slice-write-out-3
-    slice-write-out-4
+    (λ c. search needs)
+    (λ c. search needs)
+    (λ c. search needs)
+    (λ c. search needs)
     slice-write-out-5
     slice-write-out-6
     slice-write-out-7
@@ -60,5 +45,5 @@ put-pair-spec =
     slice-write-out-9
     slice-write-out-10
     slice-write-out-11
-    same-length
+    (λ c. search needs)
     returns)

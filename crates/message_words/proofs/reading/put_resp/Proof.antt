@@ -8,27 +8,6 @@ use borrow.Author.Needs.{needs}
 use Rattle.message_words.proofs.reading.put_resp.Statement.{statement}
 use Rattle.message_words.proofs.reading.put_resp.Tie as tie
 
-put-stamp-requires : tie.Need-put-stamp-requires
-put-stamp-requires c κs = search needs
-
-u64-at-requires : tie.Need-u64-at-requires
-u64-at-requires c κs = search needs
-
-slice-write-out : tie.Need-slice-write-out
-slice-write-out c = search needs
-
-u16-at-requires : tie.Need-u16-at-requires
-u16-at-requires c κs = search needs
-
-cast-out : tie.Need-cast-out
-cast-out c = search needs
-
-slice-write-out-2 : tie.Need-slice-write-out-2
-slice-write-out-2 c = search needs
-
-same-length : tie.Need-same-length
-same-length c = search needs
-
 returns : tie.Need-returns
 unfolding identityAt
 returns c =
@@ -44,11 +23,11 @@ pub put-resp-spec : {M : Type 1} → statement M
 put-resp-spec =
     tie.close
     (tie.spec
-    put-stamp-requires
-    u64-at-requires
-    slice-write-out
-    u16-at-requires
-    cast-out
-    slice-write-out-2
-    same-length
+    (λ c κs. search needs)
+    (λ c κs. search needs)
+    (λ c. search needs)
+    (λ c κs. search needs)
+    (λ c. search needs)
+    (λ c. search needs)
+    (λ c. search needs)
     returns)

@@ -8,21 +8,6 @@ use borrow.Author.Needs.{needs}
 use Rattle.message_words.proofs.reading.put_stamp.Statement.{statement}
 use Rattle.message_words.proofs.reading.put_stamp.Tie as tie
 
-u48-at-requires : tie.Need-u48-at-requires
-u48-at-requires c κs = search needs
-
-u32-at-requires : tie.Need-u32-at-requires
-u32-at-requires c κs = search needs
-
-cast-put-pair : tie.Need-cast-put-pair
-cast-put-pair c = search needs
-
-put-pair-requires : tie.Need-put-pair-requires
-put-pair-requires c κs = search needs
-
-same-length : tie.Need-same-length
-same-length c = search needs
-
 returns : tie.Need-returns
 unfolding stampOf
 returns c =
@@ -35,4 +20,4 @@ returns c =
 pub put-stamp-spec : {M : Type 1} → statement M
 put-stamp-spec =
     tie.close
-    (tie.spec u48-at-requires u32-at-requires cast-put-pair put-pair-requires same-length returns)
+    (tie.spec (λ c κs. search needs) (λ c κs. search needs) (λ c. search needs) (λ c κs. search needs) (λ c. search needs) returns)

@@ -8,21 +8,6 @@ use borrow.Author.Needs.{needs}
 use Rattle.message_words.proofs.reading.put_target.Statement.{statement}
 use Rattle.message_words.proofs.reading.put_target.Tie as tie
 
-u64-at-requires : tie.Need-u64-at-requires
-u64-at-requires c κs = search needs
-
-u16-at-requires : tie.Need-u16-at-requires
-u16-at-requires c κs = search needs
-
-cast-put-pair : tie.Need-cast-put-pair
-cast-put-pair c = search needs
-
-put-pair-requires : tie.Need-put-pair-requires
-put-pair-requires c κs = search needs
-
-same-length : tie.Need-same-length
-same-length c = search needs
-
 returns : tie.Need-returns
 unfolding identityAt
 returns c =
@@ -35,4 +20,4 @@ returns c =
 pub put-target-spec : {M : Type 1} → statement M
 put-target-spec =
     tie.close
-    (tie.spec u64-at-requires u16-at-requires cast-put-pair put-pair-requires same-length returns)
+    (tie.spec (λ c κs. search needs) (λ c κs. search needs) (λ c. search needs) (λ c κs. search needs) (λ c. search needs) returns)

@@ -7,24 +7,6 @@ use borrow.Author.Needs.{needs}
 use Rattle.message_words.proofs.straight.body_holds.Statement.{statement}
 use Rattle.message_words.proofs.straight.body_holds.Tie as tie
 
-element-copy-out-kind : tie.Need-element-copy-out-kind
-element-copy-out-kind c = search needs
-
-stamp-holds-requires : tie.Need-stamp-holds-requires
-stamp-holds-requires c κs = search needs
-
-stamp-holds-requires-2 : tie.Need-stamp-holds-requires-2
-stamp-holds-requires-2 c κs = search needs
-
-stamp-holds-requires-3 : tie.Need-stamp-holds-requires-3
-stamp-holds-requires-3 c κs = search needs
-
-stamp-holds-requires-4 : tie.Need-stamp-holds-requires-4
-stamp-holds-requires-4 c κs = search needs
-
-stamp-holds-requires-5 : tie.Need-stamp-holds-requires-5
-stamp-holds-requires-5 c κs = search needs
-
 returns : tie.Need-returns
 returns c = let w = c .before .before .before .args .w .now in c .stamp-holds .ensures ∙ sym (ap bodyFits (body-sync w (c .before .match .keys1)))
 
@@ -48,12 +30,12 @@ pub body-holds-spec : {M : Type 1} → statement M
 body-holds-spec =
     tie.close
     (tie.spec
-    element-copy-out-kind
-    stamp-holds-requires
-    stamp-holds-requires-2
-    stamp-holds-requires-3
-    stamp-holds-requires-4
-    stamp-holds-requires-5
+    (λ c. search needs)
+    (λ c κs. search needs)
+    (λ c κs. search needs)
+    (λ c κs. search needs)
+    (λ c κs. search needs)
+    (λ c κs. search needs)
     returns
     returns-2
     returns-3

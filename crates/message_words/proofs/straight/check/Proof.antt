@@ -16,25 +16,13 @@ past c = omega arith
 within : (c : tie.Else3) → c .before .size-of .result + length (c .before .before .before .before .before .before .before .args .tail .now) ≤ 65535
 within c = omega arith
 
-element-copy-out-if1 : tie.Need-element-copy-out-if1
-element-copy-out-if1 c = search needs
-
 returns : tie.Need-returns
 unfolding writeCheck refuse headerOf
 returns c = rw (le-ltb _ _ (c .if1 .taken))
 
-body-holds-requires : tie.Need-body-holds-requires
-body-holds-requires c κs = search needs
-
 returns-2 : tie.Need-returns-2
 unfolding writeCheck refuse headerOf
 returns-2 c = let f = c .before in rw (lt-ltb _ _ (f .before .if1 .left), ← f .body-holds .ensures, c .if2 .taken)
-
-size-of-requires : tie.Need-size-of-requires
-size-of-requires c κs = search needs
-
-sub-if3 : tie.Need-sub-if3
-sub-if3 c = search needs
 
 returns-3 : tie.Need-returns-3
 unfolding writeCheck refuse headerOf
@@ -44,18 +32,6 @@ returns-3 c =
     let f = e2 .before in
     let e1 = f .before in
     rw (lt-ltb _ _ (e1 .if1 .left), ← f .body-holds .ensures, e2 .if2 .left, ← z .size-of .ensures .0, lt-ltb _ _ (past c))
-
-check-requires : tie.Need-check-requires
-check-requires c κs = search needs
-
-enum-told : tie.Need-enum-told
-enum-told c = search needs
-
-enum-told-2 : tie.Need-enum-told-2
-enum-told-2 c = search needs
-
-add-if4 : tie.Need-add-if4
-add-if4 c = search needs
 
 returns-4 : tie.Need-returns-4
 unfolding writeCheck refuse headerOf
@@ -94,17 +70,17 @@ pub check-spec : {M : Type 1} → statement M
 check-spec =
     tie.close
     (tie.spec
-    element-copy-out-if1
+    (λ c. search needs)
     returns
-    body-holds-requires
+    (λ c κs. search needs)
     returns-2
-    size-of-requires
-    sub-if3
+    (λ c κs. search needs)
+    (λ c. search needs)
     returns-3
-    check-requires
-    enum-told
-    enum-told-2
-    add-if4
+    (λ c κs. search needs)
+    (λ c. search needs)
+    (λ c. search needs)
+    (λ c. search needs)
     returns-4
     returns-5
     returns-6)

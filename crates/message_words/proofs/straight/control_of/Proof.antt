@@ -6,9 +6,6 @@ use borrow.Author.Needs.{needs}
 use Rattle.message_words.proofs.straight.control_of.Statement.{statement}
 use Rattle.message_words.proofs.straight.control_of.Tie as tie
 
-element-copy-out-kind : tie.Need-element-copy-out-kind
-element-copy-out-kind c = search needs
-
 returns : tie.Need-returns
 returns c = let w = c .before .before .args .w .now in sym (ap controlOf (body-sync w (c .match .keys1)))
 
@@ -30,4 +27,4 @@ returns-6 c = let w = c .before .before .args .w .now in sym (ap controlOf (body
 pub control-of-spec : {M : Type 1} → statement M
 control-of-spec =
     tie.close
-    (tie.spec element-copy-out-kind returns returns-2 returns-3 returns-4 returns-5 returns-6)
+    (tie.spec (λ c. search needs) returns returns-2 returns-3 returns-4 returns-5 returns-6)

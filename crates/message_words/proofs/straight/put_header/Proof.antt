@@ -10,26 +10,8 @@ use borrow.Author.Needs.{needs}
 use Rattle.message_words.proofs.straight.put_header.Statement.{statement}
 use Rattle.message_words.proofs.straight.put_header.Tie as tie
 
-header-of-requires : tie.Need-header-of-requires
-header-of-requires c κs = search needs
-
-kind-of-requires : tie.Need-kind-of-requires
-kind-of-requires c κs = search needs
-
-control-of-requires : tie.Need-control-of-requires
-control-of-requires c κs = search needs
-
 put-lead-requires : tie.Need-put-lead-requires
 put-lead-requires c κs = let k = c .before .before in let h = k .before in let s = h .before .before in let w = s .args .w .now in (omega (arith, s .pre .0, ap (λ (x : Header). x .transport) (h .header-of .ensures)), omega (arith, kind-below (bodyOf w), k .kind-of .ensures), omega (arith, s .pre .1))
-
-put-identity-requires : tie.Need-put-identity-requires
-put-identity-requires c κs = search needs
-
-put-close-requires : tie.Need-put-close-requires
-put-close-requires c κs = search needs
-
-same-length : tie.Need-same-length
-same-length c = search needs
 
 returns : tie.Need-returns
 unfolding leadOctets identityOctets closeOctets
@@ -59,11 +41,11 @@ pub put-header-spec : {M : Type 1} → statement M
 put-header-spec =
     tie.close
     (tie.spec
-    header-of-requires
-    kind-of-requires
-    control-of-requires
+    (λ c κs. search needs)
+    (λ c κs. search needs)
+    (λ c κs. search needs)
     put-lead-requires
-    put-identity-requires
-    put-close-requires
-    same-length
+    (λ c κs. search needs)
+    (λ c κs. search needs)
+    (λ c. search needs)
     returns)

@@ -8,9 +8,6 @@ use borrow.Author.Needs.{needs}
 use Rattle.message_words.proofs.straight.size_of.Statement.{statement}
 use Rattle.message_words.proofs.straight.size_of.Tie as tie
 
-element-copy-out-kind : tie.Need-element-copy-out-kind
-element-copy-out-kind c = search needs
-
 returns : tie.Need-returns
 unfolding fixedSize
 returns c = let w = c .before .before .args .w .now in (sym (ap sizeOf (body-sync w (c .match .keys1))), omega arith, omega arith)
@@ -38,4 +35,4 @@ returns-6 c = let w = c .before .before .args .w .now in (sym (ap sizeOf (body-s
 pub size-of-spec : {M : Type 1} → statement M
 size-of-spec =
     tie.close
-    (tie.spec element-copy-out-kind returns returns-2 returns-3 returns-4 returns-5 returns-6)
+    (tie.spec (λ c. search needs) returns returns-2 returns-3 returns-4 returns-5 returns-6)

@@ -4,15 +4,9 @@ use borrow.Author.Needs.{needs}
 use Rattle.message_words.proofs.straight.stamp_holds.Statement.{statement}
 use Rattle.message_words.proofs.straight.stamp_holds.Tie as tie
 
-element-copy-out-result : tie.Need-element-copy-out-result
-element-copy-out-result c = search needs
-
-element-copy-out-result-2 : tie.Need-element-copy-out-result-2
-element-copy-out-result-2 c = search needs
-
 returns : tie.Need-returns
 unfolding stampFits
 returns c = search needs
 
 pub stamp-holds-spec : {M : Type 1} → statement M
-stamp-holds-spec = tie.close (tie.spec element-copy-out-result element-copy-out-result-2 returns)
+stamp-holds-spec = tie.close (tie.spec (λ c. search needs) (λ c. search needs) returns)

@@ -14,21 +14,6 @@ use Rattle.message_words.proofs.straight.write.Tie as tie
 may : (c : tie.After-enum-told) → let s = c .before .before .before .before .before in Allowed (s .args .magic) (messageOf (s .args .w .now)) (s .args .tail .now) (length (s .args .out .now))
 may c = let k = c .before .before in allowed _ _ _ _ (sym (k .check .ensures) ∙ c .enum-told .given .1)
 
-check-requires : tie.Need-check-requires
-check-requires c κs = search needs
-
-enum-known-x : tie.Need-enum-known-x
-enum-known-x c = search needs
-
-enum-told : tie.Need-enum-told
-enum-told c = search needs
-
-size-of-requires : tie.Need-size-of-requires
-size-of-requires c κs = search needs
-
-add-n : tie.Need-add-n
-add-n c = search needs
-
 cast-put-header : tie.Need-cast-put-header
 cast-put-header c = let z = c .before in omega (arith, may (z .before), z .size-of .ensures .0)
 
@@ -47,9 +32,6 @@ returns c =
     let x = c .before in
     let k = x .before .before in
     (rw (← k .check .ensures, x .x .given .1), rw (← k .check .ensures, x .x .given .1))
-
-same-length : tie.Need-same-length
-same-length c = search needs
 
 returns-2 : tie.Need-returns-2
 unfolding writeOf bufferOf
@@ -73,15 +55,15 @@ pub write-spec : {M : Type 1} → statement M
 write-spec =
     tie.close
     (tie.spec
-    check-requires
-    enum-known-x
-    enum-told
-    size-of-requires
-    add-n
+    (λ c κs. search needs)
+    (λ c. search needs)
+    (λ c. search needs)
+    (λ c κs. search needs)
+    (λ c. search needs)
     cast-put-header
     put-header-requires
     put-body-requires
     copy-in-requires
     returns
-    same-length
+    (λ c. search needs)
     returns-2)

@@ -10,39 +10,6 @@ use borrow.Author.Needs.{needs}
 use Rattle.message_words.proofs.writing.is_link.Statement.{statement}
 use Rattle.message_words.proofs.writing.is_link.Tie as tie
 
-element-copy-out-words-for : tie.Need-element-copy-out-words-for
-element-copy-out-words-for c = search needs
-
-words-for-requires : tie.Need-words-for-requires
-words-for-requires c κs = search needs
-
-link-message-of-requires : tie.Need-link-message-of-requires
-link-message-of-requires c κs = search needs
-
-link-message-words-requires : tie.Need-link-message-words-requires
-link-message-words-requires c κs = search needs
-
-sub-are-same : tie.Need-sub-are-same
-sub-are-same c = search needs
-
-part-are-same-start : tie.Need-part-are-same-start
-part-are-same-start c = search needs
-
-part-are-same-end : tie.Need-part-are-same-end
-part-are-same-end c = search needs
-
-sub-are-same-2 : tie.Need-sub-are-same-2
-sub-are-same-2 c = search needs
-
-part-are-same-start-2 : tie.Need-part-are-same-start-2
-part-are-same-start-2 c = search needs
-
-part-are-same-end-2 : tie.Need-part-are-same-end-2
-part-are-same-end-2 c = search needs
-
-are-same-requires : tie.Need-are-same-requires
-are-same-requires c κs = search needs
-
 returns : tie.Need-returns
 returns c =
     let m = c .before .before .before .before in
@@ -56,15 +23,15 @@ pub is-link-spec : {M : Type 1} → statement M
 is-link-spec =
     tie.close
     (tie.spec
-    element-copy-out-words-for
-    words-for-requires
-    link-message-of-requires
-    link-message-words-requires
-    sub-are-same
-    part-are-same-start
-    part-are-same-end
-    sub-are-same-2
-    part-are-same-start-2
-    part-are-same-end-2
-    are-same-requires
+    (λ c. search needs)
+    (λ c κs. search needs)
+    (λ c κs. search needs)
+    (λ c κs. search needs)
+    (λ c. search needs)
+    (λ c. search needs)
+    (λ c. search needs)
+    (λ c. search needs)
+    (λ c. search needs)
+    (λ c. search needs)
+    (λ c κs. search needs)
     returns)

@@ -5,33 +5,6 @@ use borrow.Author.Needs.{needs}
 use Rattle.message_words.proofs.writing.link_message_of.Statement.{statement}
 use Rattle.message_words.proofs.writing.link_message_of.Tie as tie
 
-element-copy-out-number : tie.Need-element-copy-out-number
-element-copy-out-number c = search needs
-
-element-copy-out-t9 : tie.Need-element-copy-out-t9
-element-copy-out-t9 c = search needs
-
-cast-t11 : tie.Need-cast-t11
-cast-t11 c = search needs
-
-element-copy-out-t14 : tie.Need-element-copy-out-t14
-element-copy-out-t14 c = search needs
-
-cast-t16 : tie.Need-cast-t16
-cast-t16 c = search needs
-
-element-copy-out-t19 : tie.Need-element-copy-out-t19
-element-copy-out-t19 c = search needs
-
-cast-t21 : tie.Need-cast-t21
-cast-t21 c = search needs
-
-element-copy-out-t24 : tie.Need-element-copy-out-t24
-element-copy-out-t24 c = search needs
-
-element-copy-out-t27 : tie.Need-element-copy-out-t27
-element-copy-out-t27 c = search needs
-
 returns : tie.Need-returns
 unfolding linkMessageOf
 returns c = rw (c .match .keys1)
@@ -62,15 +35,15 @@ pub link-message-of-spec : {M : Type 1} → statement M
 link-message-of-spec =
     tie.close
     (tie.spec
-    element-copy-out-number
-    element-copy-out-t9
-    cast-t11
-    element-copy-out-t14
-    cast-t16
-    element-copy-out-t19
-    cast-t21
-    element-copy-out-t24
-    element-copy-out-t27
+    (λ c. search needs)
+    (λ c. search needs)
+    (λ c. search needs)
+    (λ c. search needs)
+    (λ c. search needs)
+    (λ c. search needs)
+    (λ c. search needs)
+    (λ c. search needs)
+    (λ c. search needs)
     returns
     returns-2
     returns-3

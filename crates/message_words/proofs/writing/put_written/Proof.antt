@@ -4,15 +4,6 @@ use borrow.Author.Needs.{needs}
 use Rattle.message_words.proofs.writing.put_written.Statement.{statement}
 use Rattle.message_words.proofs.writing.put_written.Tie as tie
 
-enum-known-x : tie.Need-enum-known-x
-enum-known-x c = search needs
-
-number-requires : tie.Need-number-requires
-number-requires c κs = search needs
-
-enum-known-x-2 : tie.Need-enum-known-x-2
-enum-known-x-2 c = search needs
-
 returns : tie.Need-returns
 returns c = rw (c .before .before .x .given .1) (c .number .ensures, refl)
 
@@ -21,4 +12,4 @@ returns-2 c = rw (c .before .before .x2 .given .1) (refl, refl)
 
 pub put-written-spec : {M : Type 1} → statement M
 put-written-spec =
-    tie.close (tie.spec enum-known-x number-requires enum-known-x-2 returns returns-2)
+    tie.close (tie.spec (λ c. search needs) (λ c κs. search needs) (λ c. search needs) returns returns-2)

@@ -15,9 +15,6 @@ returns-2 : tie.Need-returns-2
 unfolding refuse
 returns-2 c = rw (eq-eqb _ _ (c .before .before .before .if1 .left), eq-eqb _ _ (c .if2 .taken))
 
-notice-requires : tie.Need-notice-requires
-notice-requires c κs = search needs
-
 returns-3 : tie.Need-returns-3
 unfolding refuse
 returns-3 c =
@@ -25,4 +22,4 @@ returns-3 c =
     rw (eq-eqb _ _ (o .before .before .before .if1 .left), ne-eqb _ _ (o .if2 .left)) (ap Notice (c .notice .ensures))
 
 pub judge-spec : {M : Type 1} → statement M
-judge-spec = tie.close (tie.spec returns returns-2 notice-requires returns-3)
+judge-spec = tie.close (tie.spec returns returns-2 (λ c κs. search needs) returns-3)

@@ -8,15 +8,6 @@ use borrow.Author.Needs.{needs}
 use Rattle.ports.proofs.intake.take_in.Statement.{statement}
 use Rattle.ports.proofs.intake.take_in.Tie as tie
 
-admit-requires : tie.Need-admit-requires
-admit-requires c κs = search needs
-
-enum-known-admitted : tie.Need-enum-known-admitted
-enum-known-admitted c = search needs
-
-enum-known-admitted-2 : tie.Need-enum-known-admitted-2
-enum-known-admitted-2 c = search needs
-
 start-requires : tie.Need-start-requires
 start-requires c κs =
     let a = c .before in
@@ -24,32 +15,11 @@ start-requires c κs =
     let g = d .before .before .before .args in
     admitted-port (g .set) (g .port) (g .s .now) _ (sym (d .admit .ensures) ∙ a .admitted2 .given .1)
 
-add-take : tie.Need-add-take
-add-take c = search needs
-
-mul-take : tie.Need-mul-take
-mul-take c = search needs
-
-sub-take : tie.Need-sub-take
-sub-take c = search needs
-
-part-take-start : tie.Need-part-take-start
-part-take-start c = search needs
-
-part-take-end : tie.Need-part-take-end
-part-take-end c = search needs
-
-take-requires : tie.Need-take-requires
-take-requires c κs = search needs
-
 returns : tie.Need-returns
 returns c =
     let d = c .before .before .before in
     let g = d .before .before .before .args in
     take-refused (g .set) (g .words .now) (g .port) (g .t) (g .s .now) _ _ (d .admit .ensures) (c .before .admitted .given .1)
-
-same-length : tie.Need-same-length
-same-length c = search needs
 
 returns-2 : tie.Need-returns-2
 returns-2 c =
@@ -68,16 +38,16 @@ pub take-in-spec : {M : Type 1} → statement M
 take-in-spec =
     tie.close
     (tie.spec
-    admit-requires
-    enum-known-admitted
-    enum-known-admitted-2
+    (λ c κs. search needs)
+    (λ c. search needs)
+    (λ c. search needs)
     start-requires
-    add-take
-    mul-take
-    sub-take
-    part-take-start
-    part-take-end
-    take-requires
+    (λ c. search needs)
+    (λ c. search needs)
+    (λ c. search needs)
+    (λ c. search needs)
+    (λ c. search needs)
+    (λ c κs. search needs)
     returns
-    same-length
+    (λ c. search needs)
     returns-2)

@@ -10,16 +10,10 @@ use borrow.Author.Needs.{needs}
 use Rattle.ports.proofs.interval.set_in.Statement.{statement}
 use Rattle.ports.proofs.interval.set_in.Tie as tie
 
-is-port-requires : tie.Need-is-port-requires
-is-port-requires c κs = search needs
-
 returns : tie.Need-returns
 returns c =
     let g = c .before .before .before .args in
     set-no-port (g .words .now) (g .port) _ (inRange (g .e)) _ (g .e % 8) (c .before .is-port .ensures) refl (c .if1 .taken)
-
-in-range-requires : tie.Need-in-range-requires
-in-range-requires c κs = search needs
 
 returns-2 : tie.Need-returns-2
 returns-2 c =
@@ -32,30 +26,6 @@ start-requires : tie.Need-start-requires
 start-requires c κs =
     let n = c .before .before in
     sym (n .before .is-port .ensures) ∙ not-false _ (n .if1 .left)
-
-add-set-exponent : tie.Need-add-set-exponent
-add-set-exponent c = search needs
-
-mul-set-exponent : tie.Need-mul-set-exponent
-mul-set-exponent c = search needs
-
-sub-set-exponent : tie.Need-sub-set-exponent
-sub-set-exponent c = search needs
-
-part-set-exponent-start : tie.Need-part-set-exponent-start
-part-set-exponent-start c = search needs
-
-part-set-exponent-end : tie.Need-part-set-exponent-end
-part-set-exponent-end c = search needs
-
-cast-set-exponent : tie.Need-cast-set-exponent
-cast-set-exponent c = search needs
-
-set-exponent-requires : tie.Need-set-exponent-requires
-set-exponent-requires c κs = search needs
-
-same-length : tie.Need-same-length
-same-length c = search needs
 
 returns-3 : tie.Need-returns-3
 returns-3 c =
@@ -74,17 +44,17 @@ pub set-in-spec : {M : Type 1} → statement M
 set-in-spec =
     tie.close
     (tie.spec
-    is-port-requires
+    (λ c κs. search needs)
     returns
-    in-range-requires
+    (λ c κs. search needs)
     returns-2
     start-requires
-    add-set-exponent
-    mul-set-exponent
-    sub-set-exponent
-    part-set-exponent-start
-    part-set-exponent-end
-    cast-set-exponent
-    set-exponent-requires
-    same-length
+    (λ c. search needs)
+    (λ c. search needs)
+    (λ c. search needs)
+    (λ c. search needs)
+    (λ c. search needs)
+    (λ c. search needs)
+    (λ c κs. search needs)
+    (λ c. search needs)
     returns-3)

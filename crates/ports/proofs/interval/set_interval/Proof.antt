@@ -8,12 +8,6 @@ use borrow.Author.Needs.{needs}
 use Rattle.ports.proofs.interval.set_interval.Statement.{statement}
 use Rattle.ports.proofs.interval.set_interval.Tie as tie
 
-bits8-requires : tie.Need-bits8-requires
-bits8-requires c κs = search needs
-
-set-in-requires : tie.Need-set-in-requires
-set-in-requires c κs = search needs
-
 returns : tie.Need-returns
 returns c =
     let b = c .before in
@@ -22,4 +16,4 @@ returns c =
     set-is (g .words .now) (g .port) (g .k) (b .bits8 .result) _ (c .set-in .last .0) (a .fits .k) (b .bits8 .ensures ∙ ap (ofZ w8) (toZ-ofZ w8 (g .k) (a .fits .k))) (c .set-in .ensures)
 
 pub set-interval-spec : {M : Type 1} → statement M
-set-interval-spec = tie.close (tie.spec bits8-requires set-in-requires returns)
+set-interval-spec = tie.close (tie.spec (λ c κs. search needs) (λ c κs. search needs) returns)

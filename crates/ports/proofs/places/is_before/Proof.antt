@@ -11,39 +11,6 @@ use borrow.Author.Needs.{needs}
 use Rattle.ports.proofs.places.is_before.Statement.{statement}
 use Rattle.ports.proofs.places.is_before.Tie as tie
 
-add-comes-before : tie.Need-add-comes-before
-add-comes-before c = search needs
-
-mul-comes-before : tie.Need-mul-comes-before
-mul-comes-before c = search needs
-
-sub-comes-before : tie.Need-sub-comes-before
-sub-comes-before c = search needs
-
-part-comes-before-start : tie.Need-part-comes-before-start
-part-comes-before-start c = search needs
-
-part-comes-before-end : tie.Need-part-comes-before-end
-part-comes-before-end c = search needs
-
-add-comes-before-2 : tie.Need-add-comes-before-2
-add-comes-before-2 c = search needs
-
-mul-comes-before-2 : tie.Need-mul-comes-before-2
-mul-comes-before-2 c = search needs
-
-sub-comes-before-2 : tie.Need-sub-comes-before-2
-sub-comes-before-2 c = search needs
-
-part-comes-before-start-2 : tie.Need-part-comes-before-start-2
-part-comes-before-start-2 c = search needs
-
-part-comes-before-end-2 : tie.Need-part-comes-before-end-2
-part-comes-before-end-2 c = search needs
-
-comes-before-requires : tie.Need-comes-before-requires
-comes-before-requires c κs = search needs
-
 returns : tie.Need-returns
 returns c =
     let k = c .before .before .before in
@@ -59,15 +26,15 @@ pub is-before-spec : {M : Type 1} → statement M
 is-before-spec =
     tie.close
     (tie.spec
-    add-comes-before
-    mul-comes-before
-    sub-comes-before
-    part-comes-before-start
-    part-comes-before-end
-    add-comes-before-2
-    mul-comes-before-2
-    sub-comes-before-2
-    part-comes-before-start-2
-    part-comes-before-end-2
-    comes-before-requires
+    (λ c. search needs)
+    (λ c. search needs)
+    (λ c. search needs)
+    (λ c. search needs)
+    (λ c. search needs)
+    (λ c. search needs)
+    (λ c. search needs)
+    (λ c. search needs)
+    (λ c. search needs)
+    (λ c. search needs)
+    (λ c κs. search needs)
     returns)

@@ -21,27 +21,6 @@ its c =
     let g = s .before .before .args in
     c .place .ensures ∙ ap (λ (l : List ℕ). placeIn l (g .t)) (lent-own (g .words .now) (g .port) _ (s .start .ensures .0))
 
-start-requires : tie.Need-start-requires
-start-requires c κs = search needs
-
-add-place : tie.Need-add-place
-add-place c = search needs
-
-mul-place : tie.Need-mul-place
-mul-place c = search needs
-
-sub-place : tie.Need-sub-place
-sub-place c = search needs
-
-part-place-start : tie.Need-part-place-start
-part-place-start c = search needs
-
-part-place-end : tie.Need-part-place-end
-part-place-end c = search needs
-
-place-requires : tie.Need-place-requires
-place-requires c κs = search needs
-
 returns : tie.Need-returns
 unfolding placeOn
 returns c =
@@ -66,13 +45,13 @@ pub place-spec : {M : Type 1} → statement M
 place-spec =
     tie.close
     (tie.spec
-    start-requires
-    add-place
-    mul-place
-    sub-place
-    part-place-start
-    part-place-end
-    place-requires
+    (λ c κs. search needs)
+    (λ c. search needs)
+    (λ c. search needs)
+    (λ c. search needs)
+    (λ c. search needs)
+    (λ c. search needs)
+    (λ c κs. search needs)
     returns
     add-result
     returns-2)

@@ -6,9 +6,6 @@ use borrow.Author.Needs.{needs}
 use Rattle.tlv.proofs.form.has_form.Statement.{statement}
 use Rattle.tlv.proofs.form.has_form.Tie as tie
 
-u16-at-requires : tie.Need-u16-at-requires
-u16-at-requires c κs = search needs
-
 returns : tie.Need-returns
 unfolding HasForm
 returns c = rw (← c .before .before .u16-at .ensures, ne-eqb _ _ (c .if1 .taken))
@@ -20,15 +17,6 @@ returns-2 c =
     let s = e1 .before .before .before .before in
     rw (← e1 .before .before .u16-at .ensures, eq-eqb _ _ (e1 .if1 .left), ← s .pre .1, lt-leb _ _ (c .if2 .taken))
 
-add-u16-at : tie.Need-add-u16-at
-add-u16-at c = search needs
-
-u16-at-requires-2 : tie.Need-u16-at-requires-2
-u16-at-requires-2 c κs = search needs
-
-cast-if3 : tie.Need-cast-if3
-cast-if3 c = search needs
-
 returns-3 : tie.Need-returns-3
 unfolding HasForm
 returns-3 c =
@@ -37,15 +25,6 @@ returns-3 c =
     let e1 = e2 .before in
     let s = e1 .before .before .before .before in
     rw (← e1 .before .before .u16-at .ensures, eq-eqb _ _ (e1 .if1 .left), ← s .pre .1, le-leb _ _ (e2 .if2 .left), six-away _ _ _ (a2 .u16-at2 .ok) (a2 .u16-at2 .ensures) (c .if3 .taken))
-
-add-u32-at : tie.Need-add-u32-at
-add-u32-at c = search needs
-
-u32-at-requires : tie.Need-u32-at-requires
-u32-at-requires c κs = search needs
-
-cast-result : tie.Need-cast-result
-cast-result c = search needs
 
 returns-4 : tie.Need-returns-4
 unfolding HasForm
@@ -62,14 +41,14 @@ pub has-form-spec : {M : Type 1} → statement M
 has-form-spec =
     tie.close
     (tie.spec
-    u16-at-requires
+    (λ c κs. search needs)
     returns
     returns-2
-    add-u16-at
-    u16-at-requires-2
-    cast-if3
+    (λ c. search needs)
+    (λ c κs. search needs)
+    (λ c. search needs)
     returns-3
-    add-u32-at
-    u32-at-requires
-    cast-result
+    (λ c. search needs)
+    (λ c κs. search needs)
+    (λ c. search needs)
     returns-4)

@@ -16,15 +16,6 @@ formed c =
     let h = c .before in
     rw (← h .before .wr-form .ensures) (sym (h .has-form .ensures) ∙ c .if1 .taken)
 
-wr-form-requires : tie.Need-wr-form-requires
-wr-form-requires c κs = search needs
-
-has-form-requires : tie.Need-has-form-requires
-has-form-requires c κs = search needs
-
-add-u16-at : tie.Need-add-u16-at
-add-u16-at c = search needs
-
 u16-at-requires : tie.Need-u16-at-requires
 u16-at-requires c κs = let f = of-form _ _ _ (formed c) in omega (arith, f .size, c .before .before .before .before .pre .0 .fits)
 
@@ -41,4 +32,4 @@ returns-2 c =
 pub number-at-spec : {M : Type 1} → statement M
 number-at-spec =
     tie.close
-    (tie.spec wr-form-requires has-form-requires add-u16-at u16-at-requires returns returns-2)
+    (tie.spec (λ c κs. search needs) (λ c κs. search needs) (λ c. search needs) u16-at-requires returns returns-2)

@@ -6,14 +6,8 @@ use borrow.Author.Needs.{needs}
 use Rattle.tlv.proofs.walk.check.Statement.{statement}
 use Rattle.tlv.proofs.walk.check.Tie as tie
 
-first-fault-requires : tie.Need-first-fault-requires
-first-fault-requires c κs = search needs
-
-told-requires : tie.Need-told-requires
-told-requires c κs = search needs
-
 returns : tie.Need-returns
-returns c = c .told .ensures ∙ ap outcomeOf (c .before .first-fault .ensures) ∙ told-check _ _
+returns c = c .outcome-of .ensures ∙ ap outcomeOf (c .before .first-fault .ensures) ∙ told-check _ _
 
 pub check-spec : {M : Type 1} → statement M
-check-spec = tie.close (tie.spec first-fault-requires told-requires returns)
+check-spec = tie.close (tie.spec (λ c κs. search needs) (λ c κs. search needs) returns)

@@ -16,35 +16,11 @@ found : (c : tie.Then1) → let t = c .before .before .before .args .t .now in
     c .before .place .result + 4 + sizeAt t (c .before .place .result) ≤ length t
 found c = place-found (OfType (c .before .before .before .args .kind)) _ (c .before .place .ensures) (c .if1 .taken) .whole .fits
 
-place-requires : tie.Need-place-requires
-place-requires c κs = search needs
-
-add-a : tie.Need-add-a
-add-a c = search needs
-
-add-u16-at : tie.Need-add-u16-at
-add-u16-at c = search needs
-
 u16-at-requires : tie.Need-u16-at-requires
 u16-at-requires c κs = let f = found c in omega arith
 
-cast-n : tie.Need-cast-n
-cast-n c = search needs
-
-add-result : tie.Need-add-result
-add-result c = search needs
-
-sub-result : tie.Need-sub-result
-sub-result c = search needs
-
-part-result-start : tie.Need-part-result-start
-part-result-start c = search needs
-
 part-result-end : tie.Need-part-result-end
 part-result-end c = let f = found (c .before) in omega arith
-
-slice-aggregate-result : tie.Need-slice-aggregate-result
-slice-aggregate-result c = search needs
 
 returns : tie.Need-returns
 returns c =
@@ -57,15 +33,15 @@ pub data-of-spec : {M : Type 1} → statement M
 data-of-spec =
     tie.close
     (tie.spec
-    place-requires
-    add-a
-    add-u16-at
+    (λ c κs. search needs)
+    (λ c. search needs)
+    (λ c. search needs)
     u16-at-requires
-    cast-n
-    add-result
-    sub-result
-    part-result-start
+    (λ c. search needs)
+    (λ c. search needs)
+    (λ c. search needs)
+    (λ c. search needs)
     part-result-end
-    slice-aggregate-result
+    (λ c. search needs)
     returns
     returns-2)

@@ -42,15 +42,6 @@ ended c =
 loop-holds : tie.Need-loop-holds Inv-loop μ-loop
 loop-holds c = let n = length (c .before .args .t .now) in (search needs, refl, rw (le-ltb n n (omega arith)))
 
-step-requires : tie.Need-step-requires Inv-loop μ-loop
-step-requires c κs = search needs
-
-enum-known-p : tie.Need-enum-known-p Inv-loop μ-loop
-enum-known-p c = search needs
-
-enum-told : tie.Need-enum-told Inv-loop μ-loop
-enum-told c = search needs
-
 returns : tie.Need-returns Inv-loop μ-loop
 unfolding faultOf
 returns c =
@@ -69,12 +60,6 @@ sub-l-2 c = let n = next-fits _ _ (stepped c) in omega arith
 
 number-at-requires : tie.Need-number-at-requires Inv-loop μ-loop
 number-at-requires c κs = (next-whole _ _ (stepped c), next-size _ _ (stepped c))
-
-misfits-requires : tie.Need-misfits-requires Inv-loop μ-loop
-misfits-requires c κs = search needs
-
-later-requires : tie.Need-later-requires Inv-loop μ-loop
-later-requires c κs = search needs
 
 loop-less : tie.Need-loop-less Inv-loop μ-loop
 loop-less c = let n = next-fits _ _ (stepped (c .before .before .before)) in omega arith
@@ -112,15 +97,15 @@ first-fault-spec =
     Inv-loop
     μ-loop
     loop-holds
-    step-requires
-    enum-known-p
-    enum-told
+    (λ c κs. search needs)
+    (λ c. search needs)
+    (λ c. search needs)
     returns
     sub-l
     sub-l-2
     number-at-requires
-    misfits-requires
-    later-requires
+    (λ c κs. search needs)
+    (λ c κs. search needs)
     loop-less
     loop-again
     returns-2

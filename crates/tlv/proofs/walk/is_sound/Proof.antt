@@ -1,6 +1,7 @@
 -- `walk::is_sound` meets its contract: along the walk neither the first break nor the first misfit changes.
 use Prim.Native.Nat.{ℕ, _-_, _≤_}
 use mathlib.Core.Path.{_≡_, refl, sym, _∙_}
+use mathlib.Core.Bool.{and-false}
 use native.Mathlib.Omega.{arith}
 use borrow.Author.Needs.{needs}
 use borrow.Author.Tests.{eq-eqb}
@@ -11,7 +12,7 @@ use Rattle.tlv.specs.Form.{misfitAt}
 use Rattle.tlv.specs.Faults.{whole, misfit, isSound}
 use Rattle.tlv.specs.declared.walk.Next.the-variants.{At}
 use Rattle.tlv.proofs.WalkLaws.{next-fits, next-whole, next-size, walk-end, walk-bad, walk-more}
-use Rattle.tlv.proofs.FaultLaws.{misfit-by, and-false, lt-eqb}
+use Rattle.tlv.proofs.FaultLaws.{misfit-by, lt-eqb}
 use Rattle.tlv.proofs.walk.is_sound.Statement.{statement}
 use Rattle.tlv.proofs.walk.is_sound.Tie as tie
 
@@ -43,15 +44,6 @@ turn c =
 loop-holds : tie.Need-loop-holds Inv-loop μ-loop
 loop-holds c = (search needs, refl, refl)
 
-step-requires : tie.Need-step-requires Inv-loop μ-loop
-step-requires c κs = search needs
-
-enum-known-p : tie.Need-enum-known-p Inv-loop μ-loop
-enum-known-p c = search needs
-
-enum-told : tie.Need-enum-told Inv-loop μ-loop
-enum-told c = search needs
-
 returns : tie.Need-returns Inv-loop μ-loop
 unfolding isSound
 returns c =
@@ -70,9 +62,6 @@ sub-l-2 c = let n = next-fits _ _ (stepped c) in omega arith
 
 number-at-requires : tie.Need-number-at-requires Inv-loop μ-loop
 number-at-requires c κs = (next-whole _ _ (stepped c), next-size _ _ (stepped c))
-
-misfits-requires : tie.Need-misfits-requires Inv-loop μ-loop
-misfits-requires c κs = search needs
 
 returns-2 : tie.Need-returns-2 Inv-loop μ-loop
 unfolding isSound
@@ -111,14 +100,14 @@ is-sound-spec =
     Inv-loop
     μ-loop
     loop-holds
-    step-requires
-    enum-known-p
-    enum-told
+    (λ c κs. search needs)
+    (λ c. search needs)
+    (λ c. search needs)
     returns
     sub-l
     sub-l-2
     number-at-requires
-    misfits-requires
+    (λ c κs. search needs)
     returns-2
     loop-less
     loop-again

@@ -6,32 +6,8 @@ use borrow.Author.Needs.{needs}
 use Rattle.tlv.proofs.walk.step.Statement.{statement}
 use Rattle.tlv.proofs.walk.step.Tie as tie
 
-sub-if1 : tie.Need-sub-if1
-sub-if1 c = search needs
-
 returns : tie.Need-returns
 returns c = sym (next-short _ _ (omega arith))
-
-add-u16-at : tie.Need-add-u16-at
-add-u16-at c = search needs
-
-u16-at-requires : tie.Need-u16-at-requires
-u16-at-requires c κs = search needs
-
-cast-n : tie.Need-cast-n
-cast-n c = search needs
-
-sub-if3 : tie.Need-sub-if3
-sub-if3 c = search needs
-
-sub-if3-2 : tie.Need-sub-if3-2
-sub-if3-2 c = search needs
-
-add-t12 : tie.Need-add-t12
-add-t12 c = search needs
-
-add-t13 : tie.Need-add-t13
-add-t13 c = search needs
 
 returns-2 : tie.Need-returns-2
 returns-2 c =
@@ -52,15 +28,15 @@ pub step-spec : {M : Type 1} → statement M
 step-spec =
     tie.close
     (tie.spec
-    sub-if1
+    (λ c. search needs)
     returns
-    add-u16-at
-    u16-at-requires
-    cast-n
-    sub-if3
-    sub-if3-2
-    add-t12
-    add-t13
+    (λ c. search needs)
+    (λ c κs. search needs)
+    (λ c. search needs)
+    (λ c. search needs)
+    (λ c. search needs)
+    (λ c. search needs)
+    (λ c. search needs)
     returns-2
     returns-3
     returns-4)

@@ -12,9 +12,6 @@ use borrow.Author.Needs.{needs}
 use Rattle.tlv.proofs.wr.first_link.Statement.{statement}
 use Rattle.tlv.proofs.wr.first_link.Tie as tie
 
-place-requires : tie.Need-place-requires
-place-requires c κs = search needs
-
 link-at-requires : tie.Need-link-at-requires
 link-at-requires c κs =
     let t = c .before .before .before .args .t .now in
@@ -33,4 +30,4 @@ unfolding linkIn
 returns-2 c = rw (← c .before .place .ensures, le-ltb _ _ (c .if1 .left))
 
 pub first-link-spec : {M : Type 1} → statement M
-first-link-spec = tie.close (tie.spec place-requires link-at-requires returns returns-2)
+first-link-spec = tie.close (tie.spec (λ c κs. search needs) link-at-requires returns returns-2)

@@ -4,15 +4,9 @@ use borrow.Author.Needs.{needs}
 use Rattle.tlv.proofs.wr.first_suffix.Statement.{statement}
 use Rattle.tlv.proofs.wr.first_suffix.Tie as tie
 
-place-requires : tie.Need-place-requires
-place-requires c κs = search needs
-
-suffix-at-requires : tie.Need-suffix-at-requires
-suffix-at-requires c κs = search needs
-
 returns : tie.Need-returns
 unfolding suffixIn
 returns c = rw (← c .before .place .ensures) (c .suffix-at .ensures)
 
 pub first-suffix-spec : {M : Type 1} → statement M
-first-suffix-spec = tie.close (tie.spec place-requires suffix-at-requires returns)
+first-suffix-spec = tie.close (tie.spec (λ c κs. search needs) (λ c κs. search needs) returns)

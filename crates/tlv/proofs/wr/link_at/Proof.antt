@@ -6,42 +6,6 @@ use borrow.Author.Needs.{needs}
 use Rattle.tlv.proofs.wr.link_at.Statement.{statement}
 use Rattle.tlv.proofs.wr.link_at.Tie as tie
 
-add-u16-at : tie.Need-add-u16-at
-add-u16-at c = search needs
-
-u16-at-requires : tie.Need-u16-at-requires
-u16-at-requires c κs = search needs
-
-add-octet-at : tie.Need-add-octet-at
-add-octet-at c = search needs
-
-octet-at-requires : tie.Need-octet-at-requires
-octet-at-requires c κs = search needs
-
-add-octet-at-2 : tie.Need-add-octet-at-2
-add-octet-at-2 c = search needs
-
-octet-at-requires-2 : tie.Need-octet-at-requires-2
-octet-at-requires-2 c κs = search needs
-
-add-u32-at : tie.Need-add-u32-at
-add-u32-at c = search needs
-
-u32-at-requires : tie.Need-u32-at-requires
-u32-at-requires c κs = search needs
-
-add-u64-at : tie.Need-add-u64-at
-add-u64-at c = search needs
-
-u64-at-requires : tie.Need-u64-at-requires
-u64-at-requires c κs = search needs
-
-add-u64-at-2 : tie.Need-add-u64-at-2
-add-u64-at-2 c = search needs
-
-u64-at-requires-2 : tie.Need-u64-at-requires-2
-u64-at-requires-2 c κs = search needs
-
 returns : tie.Need-returns
 unfolding linkMessageAt
 returns c = rw (← c .before .u16-at .ensures, c .match .keys1)
@@ -80,18 +44,18 @@ pub link-at-spec : {M : Type 1} → statement M
 link-at-spec =
     tie.close
     (tie.spec
-    add-u16-at
-    u16-at-requires
-    add-octet-at
-    octet-at-requires
-    add-octet-at-2
-    octet-at-requires-2
-    add-u32-at
-    u32-at-requires
-    add-u64-at
-    u64-at-requires
-    add-u64-at-2
-    u64-at-requires-2
+    (λ c. search needs)
+    (λ c κs. search needs)
+    (λ c. search needs)
+    (λ c κs. search needs)
+    (λ c. search needs)
+    (λ c κs. search needs)
+    (λ c. search needs)
+    (λ c κs. search needs)
+    (λ c. search needs)
+    (λ c κs. search needs)
+    (λ c. search needs)
+    (λ c κs. search needs)
     returns
     returns-2
     returns-3

@@ -4,12 +4,6 @@ use borrow.Author.Needs.{needs}
 use Rattle.tlv.proofs.wr.suffix_at.Statement.{statement}
 use Rattle.tlv.proofs.wr.suffix_at.Tie as tie
 
-add-u16-at : tie.Need-add-u16-at
-add-u16-at c = search needs
-
-u16-at-requires : tie.Need-u16-at-requires
-u16-at-requires c κs = search needs
-
 returns : tie.Need-returns
 returns c = rw (lt-ltb _ _ (c .before .if1 .taken), ← c .u16-at .ensures)
 
@@ -17,4 +11,4 @@ returns-2 : tie.Need-returns-2
 returns-2 c = rw (le-ltb _ _ (c .if1 .left))
 
 pub suffix-at-spec : {M : Type 1} → statement M
-suffix-at-spec = tie.close (tie.spec add-u16-at u16-at-requires returns returns-2)
+suffix-at-spec = tie.close (tie.spec (λ c. search needs) (λ c κs. search needs) returns returns-2)

@@ -1,0 +1,60 @@
+// What became of what each port heard: four counts a port.
+ghost use Prim.Native.Nat.{_<_};
+use refusal::Outcome;
+
+// The places of a port's counts: Announces taken, refused, the number of the last refusal, and refused in this hour.
+pub const TAKEN: usize = 0;
+
+pub const REFUSED: usize = 1;
+
+pub const LAST: usize = 2;
+
+pub const LATELY: usize = 3;
+
+fn place(port: u8, k: usize) -> usize
+    ensures { λ r. ⌜ r < 76 ⌝ }
+{
+    (port % 19) as usize * 4 + k % 4
+}
+
+// One of a port's counts.
+pub fn of(tally: &[u64; 76], port: u8, k: usize) -> u64 {
+    let i = place(port, k);
+    tally[i]
+}
+
+fn put(tally: &mut [u64; 76], port: u8, k: usize, value: u64) {
+    let i = place(port, k);
+    tally[i] = value;
+}
+
+fn raise(tally: &mut [u64; 76], port: u8, k: usize) {
+    let n = of(tally, port, k);
+    put(tally, port, k, std::num::wrapping_add_u64(n, 1));
+}
+
+fn refused(tally: &mut [u64; 76], port: u8, number: u64) {
+    raise(tally, port, REFUSED);
+    raise(tally, port, LATELY);
+    put(tally, port, LAST, number);
+}
+
+// Notes what became of an Announce on a port.
+pub fn note(tally: &mut [u64; 76], port: u8, x: Outcome) {
+    match x {
+        Outcome::Done => raise(tally, port, TAKEN),
+        Outcome::Refused(r) => refused(tally, port, refusal::number(r)),
+    }
+}
+
+// A new hour begins on a port: how many Announces were refused in the one before.
+pub fn turned(tally: &mut [u64; 76], port: u8) -> u64 {
+    let n = of(tally, port, LATELY);
+    put(tally, port, LATELY, 0);
+    n
+}
+
+// Whether a port heard anything.
+pub fn heard(tally: &[u64; 76], port: u8) -> bool {
+    (of(tally, port, TAKEN) != 0) | (of(tally, port, REFUSED) != 0)
+}
