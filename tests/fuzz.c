@@ -6,7 +6,8 @@
    too wide for their fields, which ports are none, which lists are ranked; then the number is the one of the header, in its order, and
    nothing is cut. Answers are held against one another where the rules tie them together.
 
-   fuzz [CALLS [SEED]] ends with status 1 at the first thing that is wrong. */
+   The calls are those of histories of several kinds: with all of it by chance, with senders that mostly repeat themselves (12), with runs of about as many
+   candidates as may be ranked (17), and on words that no call has left. fuzz [CALLS [SEED]] ends with status 1 at the first thing that is wrong. */
 #include "dzervolat.h"
 
 #include <inttypes.h>
@@ -17,7 +18,7 @@
 /* ---- chance -------------------------------------------------------------------------------------------------------------------- */
 
 /* A seed makes the same calls whatever the compiler: no expression takes two numbers in an order that C leaves open. */
-static uint64_t chance;
+static uint64_t seed, chance;
 
 static uint64_t any(void)
 {
@@ -101,7 +102,7 @@ static const uint64_t *words_before(enum box b)
 
 static void wrong(const char *what)
 {
-    printf("%s, call %" PRIu64 ": %s\n", calling, calls, what);
+    printf("seed %" PRIu64 ", %s, call %" PRIu64 ": %s\n", seed, calling, calls, what);
     exit(1);
 }
 
@@ -514,6 +515,9 @@ static dz_answer measure(void)
 
 /* ---- what is asked about ------------------------------------------------------------------------------------------------------- */
 
+/* What kind of history it is. */
+static enum { BY_CHANCE, REPEATING, CROWDED, ANY_WORDS, KINDS } kind;
+
 /* A port, now and then one that is none, and of these some that are a port in their lowest bits. */
 static uint64_t any_port(void)
 {
@@ -525,10 +529,10 @@ static uint64_t any_port(void)
     }
 }
 
-/* A time: mostly the present, which goes on, else the past; seldom any, for a port that accepts one far ahead accepts no other. */
+/* A time: mostly the present, which goes on, else the past; seldom any, for a port that accepts one far ahead accepts no other, and its senders are not heard again. */
 static uint64_t any_time(void)
 {
-    if (one_in(500)) return edge();
+    if (kind != REPEATING && one_in(500)) return edge();
     return one_in(10) ? below(now + 1) : (now += below(20000000));
 }
 
@@ -759,9 +763,9 @@ static void repeat_sender(uint64_t port)
 /* An Announce is taken as reading it and the port's records say. */
 static void try_taking(void)
 {
-    uint64_t port = one_in(2) ? 1 + below(2) : any_port(), t = any_time(), m[DZ_MESSAGE_WORDS], was[DZ_RECORD_WORDS] = {0}, flags;
+    uint64_t port = kind == REPEATING || one_in(2) ? 1 + below(2) : any_port(), t = any_time(), m[DZ_MESSAGE_WORDS], was[DZ_RECORD_WORDS] = {0}, flags;
     size_t n = any_frame(FRAME, one_in(12) ? any_type() : DZ_ANNOUNCE), slot = 0;
-    if (one_in(3)) repeat_sender(port);
+    if (one_in(kind == REPEATING ? 1 : 3)) repeat_sender(port);
     dz_answer right = read_frame(FRAME, n);
     memcpy(m, words(MESSAGE), sizeof m);
     flags = suffix(n) == DZ_OK ? words(FOUND)[DZ_FOUND_WRFLAGS] : 0;
@@ -880,7 +884,8 @@ static void try_deciding(void)
 /* Ranking two runs and merging gives the ranked list of both together; a list merged with itself is itself. */
 static void try_ranking(void)
 {
-    size_t n = one_in(8) ? below(LONGEST_RUN) : below(20), m = one_in(8) ? LONGEST_RUN - n : 1 + below(20), all;
+    const size_t most = DZ_PORTS * DZ_SLOTS;
+    size_t n = kind == CROWDED ? most - 8 + below(16) : one_in(8) ? below(LONGEST_RUN) : below(20), m = one_in(8) ? LONGEST_RUN - n : 1 + below(20), all;
     uint64_t *c;
     if (n + m > LONGEST_RUN) m = LONGEST_RUN - n;
     all = n + m;
@@ -888,12 +893,12 @@ static void try_ranking(void)
     c = words(RUN) + below(all) * DZ_CANDIDATE_WORDS;
     if (one_in(6)) c[DZ_C_PORT] = any_port();
     if (one_in(6)) widen(words(RUN) + below(all) * DZ_CANDIDATE_WORDS, candidate_bits, DZ_CANDIDATE_WORDS);
-    if (one_in(3)) rank(0, DZ_PORTS * DZ_SLOTS + 1 + below(LONGEST_RUN - DZ_PORTS * DZ_SLOTS), MERGED); /* too many, whatever they are */
+    if (one_in(3)) rank(0, most + 1 + below(LONGEST_RUN - most), MERGED); /* too many, whatever they are */
     if (rank(0, n, LIST) != DZ_OK || rank(n, m, OTHER) != DZ_OK) return;
     forget_the_rest(LIST);
     forget_the_rest(OTHER);
     merge(LIST, OTHER);
-    if (all <= DZ_PORTS * DZ_SLOTS) {
+    if (all <= most) {
         rank(0, all, TOGETHER);
         expect(same_words(words(MERGED), words(TOGETHER), DZ_LIST_WORDS), "merging is not ranking together");
     }
@@ -1127,28 +1132,36 @@ static void try_measuring(void)
 static void (*const tries[])(void) = {try_announces, try_announces, try_announces, try_slots, try_intervals, try_best, try_deciding_all, try_deciding, try_ranking,
     try_comparing, try_reading, try_origin, try_writing, try_writing_links, try_links, try_links, try_measuring};
 
-/* A new history begins: on fresh state, or now and then on any words at all. */
+/* One of the tries; most are the one that the kind of history is about. */
+static void try_one(void)
+{
+    int own = !one_in(5);
+    size_t i = below(sizeof tries / sizeof *tries);
+    (own && kind == REPEATING ? try_announces : own && kind == CROWDED ? try_ranking : tries[i])();
+}
+
+/* A new history begins: on fresh state, or on any words at all. */
 static void begin_history(uint64_t which)
 {
+    kind = which % KINDS;
     now = 0;
     memset(words(PORTS), 0, DZ_PORTS_WORDS * 8);
     memset(words(LINKS), 0, DZ_LINKS_WORDS * 8);
-    if (which % 3 == 2) fill(words(PORTS), DZ_PORTS_WORDS), fill(words(LINKS), DZ_LINKS_WORDS);
+    if (kind == ANY_WORDS) fill(words(PORTS), DZ_PORTS_WORDS), fill(words(LINKS), DZ_LINKS_WORDS);
 }
 
 int main(int count, char **arguments)
 {
-    const uint64_t enough = 200000;
+    const uint64_t enough = 200000, history = 5000;
     uint64_t most = count > 1 ? strtoull(arguments[1], NULL, 10) : enough;
-    chance = count > 2 ? strtoull(arguments[2], NULL, 10) * 2 + 1 : 1;
+    seed = count > 2 ? strtoull(arguments[2], NULL, 10) : 0;
+    chance = seed * 2 + 1;
     expect(dz_version() == DZ_VERSION, "the library is of another version than the header");
     lay_out();
     fill(memory, sizeof memory / 8);
-    for (uint64_t turn = 0; calls < most; turn++) {
-        if (turn % 2000 == 0) begin_history(turn / 2000);
-        tries[below(sizeof tries / sizeof *tries)]();
-    }
-    printf("%" PRIu64 " calls, their answers %016" PRIx64 ", of refusals 1 to 18:", calls, digest);
+    for (uint64_t which = 0; calls < most; which++)
+        for (begin_history(which); calls < most && calls < (which + 1) * history; ) try_one();
+    printf("seed %" PRIu64 ": %" PRIu64 " calls, their answers %016" PRIx64 ", of refusals 1 to 18:", seed, calls, digest);
     for (int i = 1; i <= DZ_REFUSED_FIELD; i++) printf(" %" PRIu64, answers[i]);
     printf("\n");
     calling = "all calls";

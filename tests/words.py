@@ -9,6 +9,7 @@ declares, array lengths included.
 
 It names every enumerator and every field that differ, that lack or that nobody knows, and then ends with status 1.
 """
+import math
 import pathlib
 import re
 import sys
@@ -97,7 +98,7 @@ NUMBERS = [
     ("layout.kindOf", {
         "Sync": "DZ_SYNC", "DelayReq": "DZ_DELAY_REQ", "FollowUp": "DZ_FOLLOW_UP", "DelayResp": "DZ_DELAY_RESP", "Announce": "DZ_ANNOUNCE",
         "Signaling": "DZ_SIGNALING"}),
-    ("link.numberOf", {
+    ("tlv.linkNumber", {
         "SlavePresent": "DZ_LINK_SLAVE_PRESENT", "Lock": "DZ_LINK_LOCK", "Locked": "DZ_LINK_LOCKED", "Calibrate": "DZ_LINK_CALIBRATE",
         "Calibrated": "DZ_LINK_CALIBRATED", "ModeOn": "DZ_LINK_WR_MODE_ON"}),
 ]
@@ -373,9 +374,15 @@ def faults_of_places(header, title, table, count, unpacks):
         yield f"{count} is {header.value(count)}, but {title} has {', '.join(map(str, sorted(lengths)))} words"
 
 
+def number_of(term, near):
+    """The number that a term is, written out or by a name."""
+    known = resolve(term[1], near)
+    return number_of(known.equations[0][1], known) if known else int(term[1], 0)
+
+
 def faults_of_numbers(header, title, table):
     known = definition_of(title)
-    numbers = {bare(patterns[0][0]): int(right[1], 0) for patterns, right in known.equations}
+    numbers = {bare(patterns[0][0]): number_of(right, known) for patterns, right in known.equations}
     for case in sorted(numbers.keys() | table.keys()):
         name = table.get(case)
         if name is None or case not in numbers or header.value(name) != numbers[case]:
@@ -411,11 +418,14 @@ C_TYPES = {"u8": "uint8_t", "u16": "uint16_t", "u32": "uint32_t", "u64": "uint64
 
 
 def constant(text):
-    """A length: a number, or the name of a constant of the engine."""
+    """A length: a number, the name of a constant of the engine behind its crate, or a product of such."""
+    if "*" in text:
+        return math.prod(constant(factor.strip()) for factor in text.split("*"))
     if text.isdigit():
         return int(text)
-    sources = "".join(path.read_text() for path in sorted((ROOT / "crates").glob("*/src/*.rt")))
-    return int(re.search(rf"const {text.split('::')[-1]}: usize = (\d+)", sources)[1])
+    *modules, name = text.split("::")
+    sources = "".join(path.read_text() for path in sorted((ROOT / "crates").glob(f"{modules[0] if modules else '*'}/src/*.rt")))
+    return constant(re.search(rf"const {name}: usize = ([^;]+);", sources)[1])
 
 
 def c_parameters(parameter):

@@ -239,6 +239,52 @@ mod tests {
         }
     }
 
+    /// The answers to the lines of a call among so many whose list, the one at
+    /// this place, has a count.
+    fn answers_to_count(name: &str, list: usize, count: u64, lines: usize) -> Vec<String> {
+        let mut generator = Generator::new(calls_named(name).unwrap(), 7);
+        (0..lines)
+            .map(|_| generator.next_vector())
+            .filter(|vector| count_of_list(name, list, &vector.line) == Some(count))
+            .filter_map(|vector| vector.answer)
+            .collect()
+    }
+
+    /// The count of a line's list, the one at this place.
+    fn count_of_list(name: &str, list: usize, line: &[u8]) -> Option<u64> {
+        let mut tokens = Tokens::of(line);
+        if tokens.word()? != name.as_bytes() {
+            return None;
+        }
+        if name == "decide" {
+            tokens.word()?;
+        }
+        for _ in 0..list {
+            for _ in 0..11 * tokens.number::<u64>()? {
+                tokens.word()?;
+            }
+        }
+        tokens.number()
+    }
+
+    #[test]
+    fn the_greatest_count_and_one_more_come_in_every_list() {
+        let refused = [
+            ("rank", 0, "refused 17"),
+            ("merge", 0, "refused 15"),
+            ("merge", 1, "refused 15"),
+            ("decide", 0, "refused 15"),
+            ("parent", 0, "refused 15"),
+        ];
+        for (name, list, answer) in refused {
+            let greatest = answers_to_count(name, list, 400, 20_000);
+            assert!(greatest.iter().any(|a| a == answer), "{name} {list}");
+            let past = answers_to_count(name, list, 401, 20_000);
+            assert!(!past.is_empty(), "{name} {list}");
+            assert!(past.iter().all(|a| a == "bad line"), "{name} {list}");
+        }
+    }
+
     #[test]
     fn the_same_seed_gives_the_same_lines() {
         let lines = |seed| {

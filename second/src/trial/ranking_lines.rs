@@ -8,6 +8,10 @@ use super::random::Random;
 use crate::engine::candidate::Candidate;
 use crate::engine::comparison::DataSet;
 
+/// Counts of a list that is far too long to be a ranked one, up to the greatest
+/// that a line may give and one past it.
+const LONG_COUNTS: [usize; 4] = [288, 399, 400, 401];
+
 /// A line of `rank`.
 pub fn rank_line(random: &mut Random, own: &DataSet) -> Vec<u8> {
     let mut run = if random.chance(1, 60) {
@@ -23,28 +27,29 @@ pub fn rank_line(random: &mut Random, own: &DataSet) -> Vec<u8> {
     push_list(random, CallLine::named("rank"), &run).text()
 }
 
-/// A line of `merge`: two lists, ranked or nearly.
+/// A line of `merge`: two lists, ranked or nearly, or far too long.
 pub fn merge_line(random: &mut Random, own: &DataSet) -> Vec<u8> {
     let run = family(random, own, 16);
     let (left, right) = run.split_at(random.place(17));
-    let first = nearly_ranked(random, left);
+    let first = list_to_use(random, own, left);
     let second = if random.chance(1, 8) {
         first.clone()
     } else {
-        nearly_ranked(random, right)
+        list_to_use(random, own, right)
     };
     let line = push_list(random, CallLine::named("merge"), &first);
     push_list(random, line, &second).text()
 }
 
-/// A line of `decide`: a list, ranked or nearly, a port and its best or none.
+/// A line of `decide`: a list, ranked or nearly, or far too long, a port and its
+/// best or none.
 pub fn decide_line(random: &mut Random, own: &DataSet) -> Vec<u8> {
     let count = random.pick(&[0, 1, 2, 4, 6, 8]);
     let mut run = family(random, own, count);
     if random.chance(1, 2) {
         outdo_own(own, &mut run);
     }
-    let list = nearly_ranked(random, &run);
+    let list = list_to_use(random, own, &run);
     let asked = asked_port(random, &list);
     let line = CallLine::named("decide").number(random, asked);
     let line = push_list(random, line, &list);
@@ -60,10 +65,7 @@ pub fn decide_line(random: &mut Random, own: &DataSet) -> Vec<u8> {
 
 /// A line of `parent`: a list, ranked or nearly, that our own set leads or not.
 pub fn parent_line(random: &mut Random, own: &DataSet) -> Vec<u8> {
-    let count = match random.below(300) {
-        0 => random.pick(&[288, 399, 400, 401]),
-        _ => random.pick(&[0, 1, 1, 2, 3, 4, 6, 8, 12]),
-    };
+    let count = random.pick(&[0, 1, 1, 2, 3, 4, 6, 8, 12]);
     let mut run = family(random, own, count);
     match random.below(5) {
         0 | 1 => outdo_own(own, &mut run),
@@ -71,9 +73,8 @@ pub fn parent_line(random: &mut Random, own: &DataSet) -> Vec<u8> {
         _ => {}
     }
     let list = match random.below(10) {
-        _ if count > 200 => run,
         0 => best_of_ports(&run),
-        _ => nearly_ranked(random, &run),
+        _ => list_to_use(random, own, &run),
     };
     push_list(random, CallLine::named("parent"), &list).text()
 }
@@ -131,6 +132,16 @@ fn best_of_ports(run: &[Candidate]) -> Vec<Candidate> {
         }
     }
     best
+}
+
+/// A list for a call that wants a ranked one: that of a run or nearly, now and
+/// then one that is far too long.
+fn list_to_use(random: &mut Random, own: &DataSet, run: &[Candidate]) -> Vec<Candidate> {
+    if random.chance(1, 200) {
+        let count = random.pick(&LONG_COUNTS);
+        return family(random, own, count);
+    }
+    nearly_ranked(random, run)
 }
 
 /// The ranked list of a run, or one step away from it.
