@@ -16,6 +16,7 @@ use Rattle.ports.specs.declared.asking.Status.{Status}
 use Rattle.ports.specs.declared.asking.Status.the-variants as status
 use Rattle.ports.specs.declared.asking.Looked.{Looked}
 use Rattle.ports.specs.declared.asking.Looked.the-variants as looked
+pub use Rattle.decide.specs.When.{decidedCode}
 use Rattle.decide.specs.declared.Answer.{Answer}
 use Rattle.decide.specs.declared.Answer.the-variants as answer
 use Rattle.decide.specs.declared.Comparison.{Comparison}
@@ -76,10 +77,6 @@ abbrev pub rankingWords : Ranking → List ℕ → List ℕ
 rankingWords x out = listWords (x .outcome) (x .list) out
 
 -- a decision by its number
-abbrev pub decidedCode : Answer → ℕ
-decidedCode (answer.Decided d) = 0
-decidedCode (answer.Refused x) = numberOf x
-
 abbrev pub decidedWords : Answer → List ℕ → List ℕ
 decidedWords (answer.Decided d) out = codeOf d ∷ []
 decidedWords (answer.Refused x) out = out

@@ -1,3 +1,4 @@
 pub mod Comparing
 pub mod Deciding
+pub mod When
 pub mod Leading

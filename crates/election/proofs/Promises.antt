@@ -9,11 +9,13 @@ use lib.Dec.{ltb, leb, eqb}
 use lib.ListN.{getD}
 use borrow.Author.Tests.{eqb-true, ltb-true}
 use Rattle.refusal.specs.Choice.{pick, refuse}
+use Rattle.refusal.specs.Refusal as numbered
 use Rattle.refusal.specs.declared.Refusal.{Refusal}
 use Rattle.refusal.specs.declared.Refusal.the-variants.{Port, Backward}
 use Rattle.refusal.specs.declared.Outcome.the-variants as outcome
 use Rattle.rank.specs.declared.Grandmaster.{Grandmaster}
 use Rattle.rank.specs.declared.Candidate.{Candidate}
+use Rattle.rank.specs.declared.Ranking.{Ranking}
 use Rattle.rank.specs.Ranked.{isPort, pack, holdsOf}
 use Rattle.rank.specs.Calls.{refusedOf}
 use Rattle.rank.proofs.Best.{cases}
@@ -152,6 +154,11 @@ pub record Late (ws : List ℕ) (t : ℕ) : Type 0 where
   pub port : ℕ
   pub refused : (slot : ℕ) → candidateOn ws port slot t ≡ Refused Backward
 
+-- "11", or nothing
+pub data ElectWhen (ws : List ℕ) (t : ℕ) : ℕ → Type 0 where
+  late : Late ws t → ElectWhen ws t 11
+  elected : (Late ws t → ⊥) → ElectWhen ws t 0
+
 module _ (ws : List ℕ) (t : ℕ) where
   late-when : (p slot : ℕ) → candidateOn ws p slot t ≡ Refused Backward → (isPort p ≡ true) × (ltb t (portAt ws p .last) ≡ true)
   unfolding candidateIn refuse
@@ -196,3 +203,25 @@ module _ (ws : List ℕ) (t : ℕ) where
       cases (anyLate ws t everyPort)
       (λ e. let z : outcome.Refused Backward ≡ outcome.Refused x = rw e at h in (cc, late-in everyPort every-port e))
       (λ e. let z : outcome.Done ≡ outcome.Refused x = rw e at h in absurd (let y : _≡_ {A = ℕ} 0 1 = cc in omega arith))
+
+  -- THE SAME BY ITS NUMBER: a line that holds is the number given, and the number given has its line
+  pub when-elect : {n : ℕ} → ElectWhen ws t n → numbered.codeOf (electedOf ws t everyPort .outcome) ≡ n
+  unfolding electedOf refuse
+  when-elect (late l) = ap (λ (r : Ranking). numbered.codeOf (r .outcome)) (late-refuses (l .port) 0 (l .refused 0))
+  when-elect (elected none) =
+      cases (anyLate ws t everyPort)
+      (λ e. absurd (none (late-in everyPort every-port e)))
+      (λ e. rw e)
+
+  pub elect-told : ElectWhen ws t (numbered.codeOf (electedOf ws t everyPort .outcome))
+  unfolding electedOf refuse
+  elect-told =
+      cases (anyLate ws t everyPort)
+      (λ e. rw e (late (late-in everyPort every-port e)))
+      (λ e.
+      rw e
+      (elected
+      (λ l.
+      let z : numbered.codeOf (electedOf ws t everyPort .outcome) ≡ 11 = when-elect (late l) in
+      let y : _≡_ {A = ℕ} 0 11 = rw e at z in
+      omega (arith, y))))

@@ -5,5 +5,6 @@ pub mod Tidying
 pub mod Merging
 pub mod Runs
 pub mod Laws
+pub mod Exactly
 pub mod Determined
 pub mod Witnesses
