@@ -15,6 +15,7 @@
 #include "port.h"
 #include "port_private.h"
 #include "print.h"
+#include "others.h"
 
 /* ---- the clock behind a port, and the time --------------------------------------------------------------------------------------- */
 
@@ -218,14 +219,6 @@ int main(void)
     print_set_verbose(0);
     print_set_syslog(0);
     print_set_level(-1);
-    senders_kept();
-    window();
-    port_numbers();
-    circle();
-    backups();
-    a_step_apart();
-    message_length();
-    nanoseconds();
-    refused_buffer();
+    points();
     return 0;
 }

@@ -3,6 +3,7 @@
 #include "protocol.c"
 #define main ptpd_main
 #include "ptpd.c"
+#include "others.h"
 #undef main
 
 /* ---- a port that hears Announces ------------------------------------------------------------------------------------------------- */
@@ -155,14 +156,6 @@ static void refused_buffer(void)
 
 int main(void)
 {
-    senders_kept();
-    window();
-    port_numbers();
-    circle();
-    backups();
-    a_step_apart();
-    message_length();
-    nanoseconds();
-    refused_buffer();
+    points();
     return 0;
 }
