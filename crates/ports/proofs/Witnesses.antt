@@ -2,6 +2,7 @@
 -- answer, a port number in our own clock's test, and a window that the sender chooses.
 use mathlib.Core.Path.{_≡_, refl, ap}
 use mathlib.Core.List.{List, [], _∷_, map}
+use mathlib.Core.Bool.{true, false}
 use Prim.Native.Nat.{ℕ}
 use lib.IntN.{pos, negsuc}
 use lib.ListN.{getD}
@@ -24,7 +25,7 @@ use Rattle.slots.specs.Words.{recordOf, wordsOf, portOf, wordsAfter}
 use Rattle.ports.specs.declared.intake.Settings.{Settings}
 use Rattle.ports.specs.declared.intake.Admitted.the-variants.{Refused, Notice}
 use Rattle.ports.specs.Intake.{admittedOf, planBy}
-use Rattle.ports.specs.Interval.{exponentOf, intervalOf}
+use Rattle.ports.specs.Interval.{isInterval, exponentOf, intervalOf}
 
 abbrev ours : Settings
 ours = record { domain = 0; clock = 5; magic = 0xABCD }
@@ -104,7 +105,11 @@ pub sender-sets-no-window : planBy (portOf once) 4000000006 (admittedOf ours 2 (
 unfolding planOf first tab recordOf wordsOf refuse
 sender-sets-no-window = ap (planBy (portOf once) 4000000006) heard
 
--- k from -3 to 4 and back, and those beside them
+-- k from -3 to 4, and not those beside them
+pub intervals-taken : map isInterval (negsuc 3 ∷ negsuc 2 ∷ pos 4 ∷ pos 5 ∷ []) ≡ false ∷ true ∷ true ∷ false ∷ []
+intervals-taken = refl
+
+-- each kept modulo 8, and back
 pub intervals : map exponentOf (negsuc 2 ∷ negsuc 1 ∷ negsuc 0 ∷ pos 0 ∷ pos 1 ∷ pos 2 ∷ pos 3 ∷ pos 4 ∷ []) ≡ 5 ∷ 6 ∷ 7 ∷ 0 ∷ 1 ∷ 2 ∷ 3 ∷ 4 ∷ []
 intervals = refl
 

@@ -12,7 +12,7 @@ use Rattle.refusal.specs.declared.Refusal.the-variants.{Many, Port, Unranked}
 use Rattle.rank.specs.declared.Candidate.{Candidate}
 use Rattle.rank.specs.declared.Ranked.{Ranked}
 use Rattle.rank.specs.declared.Ranking.{Ranking}
-use Rattle.rank.specs.Order.{earlierOf}
+use Rattle.rank.specs.Order.{keysOf, earlierOf}
 use Rattle.rank.specs.Ranked.{rankOf, receiverOf, pack, isRanked}
 use Rattle.rank.specs.Calls.{refusedOf, doneOf, rankingOf, mergeOf}
 use Rattle.rank.proofs.merge.Reads as merge
@@ -28,6 +28,19 @@ cand p gm steps sender port =
       port = port;
       wrflags = 0;
     }
+
+-- the ten keys in 01's order, all different; the sender is two numbers
+pub keys-in-order :
+    keysOf
+    (record {
+      grandmaster = record { priority1 = 1; class = 2; accuracy = 3; variance = 4; priority2 = 5; identity = 6 };
+      steps = 7;
+      sender = record { clock = 8; port = 9 };
+      port = 10;
+      wrflags = 11;
+    })
+    ≡ 1 ∷ 2 ∷ 3 ∷ 4 ∷ 5 ∷ 6 ∷ 7 ∷ 8 ∷ 9 ∷ 10 ∷ 11 ∷ []
+keys-in-order = refl
 
 -- "Rank order is A, C, B."
 pub a-c-b : rankOf (cand 1 7 5 1 1 ∷ cand 9 7 1 1 2 ∷ cand 5 8 0 1 3 ∷ []) ≡ cand 1 7 5 1 1 ∷ cand 5 8 0 1 3 ∷ cand 9 7 1 1 2 ∷ []
