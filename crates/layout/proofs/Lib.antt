@@ -2,3 +2,4 @@ pub mod Buffer
 pub mod Spread
 pub mod Determined
 pub mod Low
+mod Witnesses
