@@ -3,3 +3,4 @@ pub mod Reached
 pub mod FormLaws
 pub mod FaultLaws
 mod Determined
+mod Witnesses
