@@ -23,3 +23,15 @@ asking-port-status-determined κs a x y v w p q = (p ∙ sym q, refl)
 
 pub asking-look-determined : Fixes its.asking.look.ended its.asking.look.Reads.Post
 asking-look-determined κs a x y v w p q = (p ∙ sym q, refl)
+
+pub places-is-late-determined : Fixes its.places.is_late.ended its.places.is_late.Reads.Post
+places-is-late-determined κs a x y v w p q = (p ∙ sym q, refl)
+
+pub places-place-determined : Fixes its.places.place.ended its.places.place.Reads.Post
+places-place-determined κs a x y v w p q = (p ∙ sym q, refl)
+
+pub places-candidate-determined : Fixes its.places.candidate.ended its.places.candidate.Reads.Post
+places-candidate-determined κs a x y v w p q = (p ∙ sym q, refl)
+
+pub places-is-before-determined : Fixes its.places.is_before.ended its.places.is_before.Reads.Post
+places-is-before-determined κs a x y v w p q = (p ∙ sym q, refl)
