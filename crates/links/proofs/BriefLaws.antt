@@ -75,7 +75,7 @@ pub left-is : (w : ℕ) → wordOf (inState (linkOf w .role) Idle false) ≡ 8 *
 unfolding wordOf linkOf
 left-is w = rw (role-is (w / 8 % 2) (omega arith)) (omega arith)
 
-pub calibration-is : (state : State) → eqb (stateNumber state) 5 ≡ isCalibration state
+pub calibration-is : (state : State) → eqb (stateNumber state) (stateNumber Calibration) ≡ isCalibration state
 calibration-is Idle = refl
 calibration-is Present = refl
 calibration-is MLock = refl

@@ -64,7 +64,7 @@ fn entered(settings: u64, w: u64, role: Role, state: State) -> Brief
     ensures { λ r. ⌜ r ≡ briefOf (entered (settingsOf settings 0 0) (linkOf w .mode) role state) ⌝ }
 {
     let number = crate::state_number(state);
-    if (number == 5) & (settings / 4 % 2 != 1) {
+    if (number == crate::CALIBRATION) & (settings / 4 % 2 != 1) {
         return Brief {
             word: in_state(role, State::Calibrated, w),
             sends: CALIBRATE as u64,

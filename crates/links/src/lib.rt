@@ -21,6 +21,23 @@ use link::Stepped;
 use refusal::Outcome;
 use refusal::Refusal;
 
+// The states in three bits of a word; IDLE is 0.
+const IDLE: u64 = 0;
+
+const PRESENT: u64 = 1;
+
+const M_LOCK: u64 = 2;
+
+const S_LOCK: u64 = 3;
+
+const LOCKED: u64 = 4;
+
+const CALIBRATION: u64 = 5;
+
+const CALIBRATED: u64 = 6;
+
+const RESP_CALIB_REQ: u64 = 7;
+
 // What an event on a port answers: its step, or a refusal.
 pub enum Taken {
     Step(Stepped),
@@ -34,34 +51,34 @@ pub fn bit(b: bool) -> u64
     if b { 1 } else { 0 }
 }
 
-// A state in three bits of a word; IDLE is 0.
+// The number of a state.
 pub fn state_number(state: State) -> u64
     ensures { λ r. ⌜ r ≡ stateNumber state ⌝ }
 {
     match state {
-        State::Idle => 0,
-        State::Present => 1,
-        State::MLock => 2,
-        State::SLock => 3,
-        State::Locked => 4,
-        State::Calibration => 5,
-        State::Calibrated => 6,
-        State::RespCalibReq => 7,
+        State::Idle => IDLE,
+        State::Present => PRESENT,
+        State::MLock => M_LOCK,
+        State::SLock => S_LOCK,
+        State::Locked => LOCKED,
+        State::Calibration => CALIBRATION,
+        State::Calibrated => CALIBRATED,
+        State::RespCalibReq => RESP_CALIB_REQ,
     }
 }
 
-// The state that three bits stand for.
+// The state that a number stands for.
 fn state_of(n: u64) -> State
     ensures { λ r. ⌜ r ≡ stateOf n ⌝ }
 {
     match n {
-        1 => State::Present,
-        2 => State::MLock,
-        3 => State::SLock,
-        4 => State::Locked,
-        5 => State::Calibration,
-        6 => State::Calibrated,
-        7 => State::RespCalibReq,
+        PRESENT => State::Present,
+        M_LOCK => State::MLock,
+        S_LOCK => State::SLock,
+        LOCKED => State::Locked,
+        CALIBRATION => State::Calibration,
+        CALIBRATED => State::Calibrated,
+        RESP_CALIB_REQ => State::RespCalibReq,
         _ => State::Idle,
     }
 }
