@@ -80,6 +80,10 @@ pub lower-sender : compareOf (set (cand (clock 1 248 7) 1 8 1)) (set (cand (cloc
 unfolding compareOf sameOf evenOf
 lower-sender = refl
 
+pub lower-receiver : (compareOf (setOf (cand (clock 1 248 7) 1 7 1) 100 2) (setOf (cand (clock 1 248 7) 1 7 1) 100 3) ≡ ABetterByTopology) × (compareOf (setOf (cand (clock 1 248 7) 1 7 1) 100 3) (setOf (cand (clock 1 248 7) 1 7 1) 100 2) ≡ BBetterByTopology)
+unfolding compareOf sameOf evenOf
+lower-receiver = (refl, refl)
+
 pub receiver-clock-unread : compareOf (setOf (cand (clock 1 248 7) 1 7 1) 100 1) (setOf (cand (clock 1 248 7) 1 7 1) 200 1) ≡ Error2
 unfolding compareOf sameOf evenOf
 receiver-clock-unread = refl

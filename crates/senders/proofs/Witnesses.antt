@@ -122,3 +122,26 @@ pub record Qualified : Type 0 where
 pub qualified : Qualified
 unfolding planOf first tab refuse candidatesOf kept
 qualified = record { one = refl; two = refl; last = refl; late = refl; shifted = refl; shifted-late = refl }
+
+-- "It then shifts the receipts and replaces the data.": the second Announce of that sender has other numbers throughout, and they are what is kept
+abbrev other : Notice
+other =
+    record {
+      sender = record { clock = 11; port = 12 };
+      sequence = 21;
+      grandmaster = record { priority1 = 31; class = 32; accuracy = 33; variance = 34; priority2 = 35; identity = 36 };
+      steps = 37;
+      wrflags = 38;
+    }
+
+pub replaced : candidatesOf 9 (taking once 1000000000 other) 1000000000
+    ≡ record {
+      grandmaster = record { priority1 = 31; class = 32; accuracy = 33; variance = 34; priority2 = 35; identity = 36 };
+      steps = 37;
+      sender = record { clock = 11; port = 12 };
+      port = 9;
+      wrflags = 38;
+    }
+    ∷ []
+unfolding planOf first tab refuse candidatesOf kept
+replaced = refl
