@@ -86,6 +86,8 @@ cases =
     ∷ (fractions 3 0 (latencies 999 999 999 999) (pos 0), answer (pos 1) (pos 0) 2)
     -- D is odd, so that its half is rounded down as well: one less than M / 2
     ∷ (fractions 0 0 (latencies 250 250 250 250) (pos 0), answer (negsuc 0) (pos 0) 1)
+    -- each latency its own number, so that each counts in its place: D is 4321, and the way there 4001
+    ∷ (fractions 0 0 (latencies 1000 20000 300000 4000000) (pos 0), answer (pos 1840) (negsuc 0) 65535999998160)
     -- rounded down: the smallest negative offset
     ∷ (corrected (pos 1) (pos 0) (negsuc 0), answer (pos 0) (negsuc 0) 65535999999999)
     -- each correction
