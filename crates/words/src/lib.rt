@@ -8,10 +8,10 @@ ghost use mir.Val.{ofZ};
 ghost use Rattle.words.specs.Words.{portOf};
 
 // A signed octet as a word.
-pub fn word_of_i8(x: i8) -> u64
-    ensures { λ r. ⌜ r ≡ ofZ w64 x ⌝ }
+pub fn word_of_i8(octet: i8) -> u64
+    ensures { λ r. ⌜ r ≡ ofZ w64 octet ⌝ }
 {
-    octets::bits64(x as i64)
+    octets::bits64(octet as i64)
 }
 
 // A signed number of two octets as a word.

@@ -6,10 +6,10 @@ use Rattle.words.proofs.word_of_i8.Statement.{statement}
 use Rattle.words.proofs.word_of_i8.Tie as tie
 
 cast-bits64 : tie.Need-cast-bits64
-cast-bits64 c = widens {w = w8} {z = c .args .x} tt (c .fits .x)
+cast-bits64 c = widens {w = w8} {z = c .args .octet} tt (c .fits .octet)
 
 returns : tie.Need-returns
-returns c = word {w = w8} {z = c .before .args .x} tt (c .before .fits .x) _ (c .bits64 .ensures)
+returns c = word {w = w8} {z = c .before .args .octet} tt (c .before .fits .octet) _ (c .bits64 .ensures)
 
 pub word-of-i8-spec : {M : Type 1} → statement M
 word-of-i8-spec = tie.close (tie.spec cast-bits64 (λ c κs. search needs) returns)
