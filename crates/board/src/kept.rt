@@ -1,0 +1,118 @@
+// What a port keeps: how many of its sixteen records are live, how many are candidates, and the record of a sender.
+use crate::Parent;
+use page::tally;
+use ports::asking::Looked;
+use ports::asking::Status;
+use rank::PortIdentity;
+use senders::Record;
+use slots::Seen;
+
+// How many records of a port are live, and how many of those are candidates.
+pub struct Records {
+    pub live: u64,
+    pub candidates: u64,
+}
+
+// What a port's slot holds.
+fn seen(words: &[u64; ports::WORDS], port: u8, slot: usize) -> Seen {
+    match ports::asking::look(words, port, slot) {
+        Looked::Slot(s) => s,
+        Looked::Refused(_) => Seen::Empty,
+    }
+}
+
+// The counts with one record more.
+fn with(n: Records, r: Record, window: u64, t: u64) -> Records {
+    let live = senders::is_live(r, window, t) as u64;
+    let candidate = senders::is_qualified(r, window, t) as u64;
+    Records {
+        live: std::num::wrapping_add_u64(n.live, live),
+        candidates: std::num::wrapping_add_u64(n.candidates, candidate),
+    }
+}
+
+fn one(n: Records, s: Seen, window: u64, t: u64) -> Records {
+    match s {
+        Seen::Held(r) => with(n, r, window, t),
+        Seen::Empty => n,
+    }
+}
+
+// What a port keeps at `t`.
+pub fn kept(words: &[u64; ports::WORDS], port: u8, t: u64) -> Records {
+    let w = window(words, port);
+    let mut n = Records {
+        live: 0,
+        candidates: 0,
+    };
+    let mut i: usize = 0;
+    while i < 16 {
+        n = one(n, seen(words, port, i), w, t);
+        i += 1;
+    }
+    n
+}
+
+// A port's window in nanoseconds.
+pub fn window(words: &[u64; ports::WORDS], port: u8) -> u64 {
+    match ports::asking::port_status(words, port) {
+        Status::Known(_, k) => senders::window(octets::bits8(k) as u64),
+        Status::Refused(_) => 0,
+    }
+}
+
+// The record so far, or this one where it is of the clock's first port.
+fn nearer(so_far: Seen, s: Seen, clock: u64) -> Seen {
+    let Seen::Held(r) = s else {
+        return so_far;
+    };
+    if senders::is_of(r, PortIdentity { clock, port: 1 }) {
+        s
+    } else {
+        so_far
+    }
+}
+
+// The record of a parent's first port on the port that hears it.
+pub fn record(words: &[u64; ports::WORDS], p: Parent) -> Seen {
+    let mut s = Seen::Empty;
+    let mut i: usize = 0;
+    while i < 16 {
+        s = nearer(s, seen(words, p.port, i), p.clock);
+        i += 1;
+    }
+    s
+}
+
+// What became of what a looped cable brought back, so many Announces.
+pub fn loop_told(counts: &[u64; 76], port: u8, all: u64, t: u64) {
+    let refused = tally::of(counts, port, tally::LATELY);
+    let taken = std::num::wrapping_sub_u64(all, refused);
+    let last = tally::of(counts, port, tally::LAST);
+    page::tell(
+        b"%t  port %d: a tenant's cable brings our own Announces back: %d Announces taken, %d refused with %n\n",
+        &[t, port as u64, taken, refused, last],
+    );
+}
+
+// What became of what so many new names announced on a port.
+pub fn flood_told(counts: &[u64; 76], port: u8, names: u64, t: u64) {
+    let refused = tally::of(counts, port, tally::LATELY);
+    let taken = std::num::wrapping_sub_u64(std::num::wrapping_add_u64(names, names), refused);
+    let last = tally::of(counts, port, tally::LAST);
+    page::tell(
+        b"%t  port %d: %d new names, each heard twice: %d Announces taken, %d refused with %n\n",
+        &[t, port as u64, names, taken, refused, last],
+    );
+}
+
+// What a port that is flooded keeps, and who the parent is meanwhile.
+pub fn meanwhile(words: &[u64; ports::WORDS], port: u8, t: u64, p: Parent) {
+    let n = kept(words, port, t);
+    page::tell(
+        b"          meanwhile: %d/16 records live, %d of them candidates; parent: ",
+        &[n.live, n.candidates],
+    );
+    crate::named(p);
+    page::say(b"\n");
+}

@@ -1,0 +1,86 @@
+// The table of the ports at the day's end, and what each card ranks.
+use crate::cards;
+use crate::kept;
+use page::tally;
+use rank::Ranked;
+use senders::Asked;
+
+// The sender, grandmaster and steps of a port's best; dashes where it has none.
+fn best_told(best: Asked) {
+    let Asked::Found(c) = best else {
+        page::say(b"        -                 -                     -");
+        return;
+    };
+    let sender = c.sender;
+    let grandmaster = c.grandmaster;
+    page::tell(
+        b"        %x  %x%7",
+        &[sender.clock, grandmaster.identity, c.steps as u64],
+    );
+}
+
+// A port's line: the decision, the best sender and how many records are live.
+fn port_told(words: &[u64; ports::WORDS], port: u8, code: u8, t: u64) {
+    let n = kept::kept(words, port, t);
+    page::tell(b"%4  %c", &[port as u64, code as u64]);
+    best_told(ports::asking::best(words, port, t));
+    page::tell(b"%6/16\n", &[n.live]);
+}
+
+// The lines of the ports that heard anything, at `t`.
+fn ports_told(words: &[u64; ports::WORDS], counts: &[u64; 76], now: &[u8; refusal::PORTS], t: u64) {
+    let mut i: u8 = 0;
+    while i < 18 {
+        if tally::heard(counts, i + 1) {
+            port_told(words, i + 1, now[i as usize], t);
+        }
+        i += 1;
+    }
+}
+
+// The table of decisions, with what they mean.
+pub fn told(words: &[u64; ports::WORDS], counts: &[u64; 76], now: &[u8; refusal::PORTS], t: u64) {
+    page::say(b"\nport  decision  best sender       grandmaster       steps  records\n");
+    ports_told(words, counts, now, t);
+    page::decisions_explained();
+}
+
+// One of a list, if it is that long.
+fn listed(list: Ranked, i: usize) {
+    if i < list.len && i < 4 {
+        let c = list.slots[i];
+        let sender = c.sender;
+        page::tell(b"  %x on %d", &[sender.clock, c.port as u64]);
+    }
+}
+
+// A ranked list, in its order.
+fn list_told(list: Ranked) {
+    if list.len == 0 {
+        page::say(b"  nothing");
+    }
+    listed(list, 0);
+    listed(list, 1);
+    listed(list, 2);
+    listed(list, 3);
+    page::say(b"\n");
+}
+
+// What a card's ports hear, ranked.
+fn card_told(words: &[u64; ports::WORDS], card: u8, t: u64) {
+    let from = cards::first(card) as u64;
+    page::tell(b"  ports%3 to%3", &[from, from + 5]);
+    list_told(cards::list(words, card, t));
+}
+
+// What each card hears, and all of them merged.
+pub fn cards_told(words: &[u64; ports::WORDS], t: u64) {
+    page::say(
+        b"\nwhat each card ranked of its own six ports, best first, and the three lists merged\n",
+    );
+    card_told(words, 0, t);
+    card_told(words, 1, t);
+    card_told(words, 2, t);
+    page::say(b"  merged        ");
+    list_told(cards::all(words, t));
+}

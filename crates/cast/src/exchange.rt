@@ -1,0 +1,233 @@
+// The exchange of the slave port once an hour: Sync and Follow_Up out of which the engine takes the origin time, a
+// Delay_Req and its answer, and what they give. What the fibre and our oscillator do is made up; the delay and the offset
+// are the engine's.
+use crate::MAGIC;
+use crate::OURS;
+use crate::header;
+use crate::written;
+use delay::Asymmetry;
+use delay::Corrections;
+use delay::Exchange;
+use delay::FineStamp;
+use delay::Latencies;
+use delay::Measurement;
+use delay::Offset;
+use delay::ScaledNs;
+use delay::ScaledPs;
+use delay::Stamp;
+use delay::Stamps;
+use message::fields::Body;
+use message::fields::Message;
+use message::fields::Timestamp;
+
+// A nanosecond and a picosecond, times 2^16.
+const SCALE: u64 = 65536;
+
+// The nanoseconds of a second.
+const NANOS: u64 = refusal::SECOND_NANOS as u64;
+
+// The fibre's one way and the four latencies, in nanoseconds.
+const FIBRE: u64 = 24_480;
+
+const MASTER_TX: u64 = 226;
+
+const MASTER_RX: u64 = 232;
+
+const SLAVE_TX: u64 = 224;
+
+const SLAVE_RX: u64 = 230;
+
+// Delay_Req leaves half a second after Sync, in nanoseconds.
+const HALF: u64 = 500_000_000;
+
+// How long after t1 the slave takes t2 and t3, in nanoseconds times 2^16, and the master t4, in nanoseconds.
+const T2: u64 = (MASTER_TX + FIBRE + SLAVE_RX) * SCALE;
+
+const T3: u64 = HALF * SCALE;
+
+const T4: u32 = (HALF + SLAVE_TX + FIBRE + MASTER_RX) as u32;
+
+// A nanosecond in picoseconds times 2^16.
+const LATENCY: u64 = 1000 * SCALE;
+
+// The two-step bit, of octet 6.
+const TWO_STEP: u16 = 0x0200;
+
+// How far our clock is off in an hour, in nanoseconds times 2^16: half as much each hour, and anew with each master. It is ahead of the first
+// and behind the second.
+fn off(h: u64) -> u64 {
+    if h < 13 {
+        return 800 * SCALE >> h;
+    }
+    if h < 24 { 40 * SCALE >> (h - 13) } else { 0 }
+}
+
+// A time of our clock that would be `scaled` if it were not off.
+fn shown(scaled: u64, h: u64) -> u64 {
+    if h < 13 {
+        std::num::wrapping_add_u64(scaled, off(h))
+    } else {
+        std::num::wrapping_sub_u64(scaled, off(h))
+    }
+}
+
+// A message of a master's, written into a lent buffer.
+fn stamped(clock: u64, sequence: u16, flags: u16, body: Body, out: &mut [u8]) {
+    let m = Message {
+        header: header(clock, sequence, flags),
+        body,
+    };
+    written(out, m, b"");
+}
+
+// The time that ten octets hold.
+fn time_in(part: &[u8]) -> Stamp {
+    Stamp {
+        seconds: octets::u48_at(part, 0),
+        nanos: octets::u32_at(part, 6),
+    }
+}
+
+// t1 of the hour, from the Follow_Up of a two-step Sync.
+fn origin_time(master: u64, h: u64) -> Stamp {
+    let n = (h % 24) as u16;
+    let mut sync = [0u8; 44];
+    let mut follow = [0u8; 44];
+    let early = Timestamp {
+        seconds: 0,
+        nanoseconds: 0,
+    };
+    let precise = Timestamp {
+        seconds: h % 24 * 3600,
+        nanoseconds: 0,
+    };
+    stamped(master, n, TWO_STEP, Body::Sync(early), &mut sync);
+    stamped(master, n, 0, Body::FollowUp(precise), &mut follow);
+    time_in(origin::origin(&sync, &follow, MAGIC))
+}
+
+fn fine(seconds: u64, scaled: u64) -> FineStamp {
+    FineStamp {
+        seconds,
+        nanos: (scaled / SCALE % NANOS) as u32,
+        fraction: (scaled % SCALE) as u16,
+    }
+}
+
+// The four times of the hour's exchange.
+fn stamps(master: u64, h: u64) -> Stamps {
+    let t1 = origin_time(master, h);
+    let seconds = t1.seconds;
+    Stamps {
+        t1,
+        t2: fine(seconds, shown(T2, h)),
+        t3: fine(seconds, shown(T3, h)),
+        t4: Stamp { seconds, nanos: T4 },
+    }
+}
+
+fn latencies() -> Latencies {
+    Latencies {
+        mtx: ScaledPs(MASTER_TX * LATENCY),
+        mrx: ScaledPs(MASTER_RX * LATENCY),
+        stx: ScaledPs(SLAVE_TX * LATENCY),
+        srx: ScaledPs(SLAVE_RX * LATENCY),
+    }
+}
+
+// The hour's delay and offset from a master.
+fn measured(master: u64, h: u64) -> Measurement {
+    delay::measure(Exchange {
+        stamps: stamps(master, h),
+        corrections: Corrections {
+            sync: ScaledNs(0),
+            follow: ScaledNs(0),
+            resp: ScaledNs(0),
+        },
+        latencies: latencies(),
+        asymmetry: Asymmetry(0),
+    })
+}
+
+// A second in nanoseconds times 2^16.
+const SECOND: u64 = NANOS * SCALE;
+
+// Whether an offset is below a second, ahead or behind.
+fn is_near(x: Offset) -> bool {
+    (x.seconds == 0) | (x.seconds == -1)
+}
+
+// Such an offset in nanoseconds times 2^16, in two's complement.
+fn near(x: Offset) -> u64 {
+    if x.seconds == 0 {
+        x.rest
+    } else {
+        std::num::wrapping_sub_u64(x.rest, SECOND)
+    }
+}
+
+// An offset at the right end of a column; a dash where there is none.
+fn offset_told(m: Measurement) {
+    let Measurement::Measured(_, x) = m else {
+        page::say(b"             -");
+        return;
+    };
+    if is_near(x) {
+        page::tell(b"%o", &[near(x)]);
+    } else {
+        page::say(b" over a second");
+    }
+}
+
+// The hour before the first offset of a line.
+fn line_begun(h: u64) {
+    if h % 6 == 0 {
+        page::tell(b"  %h", &[h]);
+    }
+}
+
+fn line_ended(h: u64) {
+    if h % 6 == 5 {
+        page::say(b"\n");
+    }
+}
+
+// The offset at an hour's end from the clock that was followed, in its line.
+fn offset_at(leaders: &[u64; 24], h: u64) {
+    let leader = leaders[(h % 24) as usize];
+    line_begun(h);
+    if leader == OURS {
+        page::say(b"             -");
+    } else {
+        offset_told(measured(leader, h));
+    }
+    line_ended(h);
+}
+
+// Six hours of offsets a line.
+pub fn offsets_told(leaders: &[u64; 24]) {
+    page::say(b"\noffset from the parent at each hour's end, ns\n");
+    let mut h: u64 = 0;
+    while h < 24 {
+        offset_at(leaders, h);
+        h += 1;
+    }
+}
+
+// A delay, and the offset that goes with it.
+fn both_told(d: ScaledNs, x: Offset) {
+    let delay = octets::bits64(d.0);
+    if is_near(x) {
+        page::tell(b"delay%s ns, offset%s ns\n", &[delay, near(x)]);
+    } else {
+        page::tell(b"delay%s ns, offset over a second\n", &[delay]);
+    }
+}
+
+// The hour's delay and offset from a master, in a line.
+pub fn told(master: u64, h: u64) {
+    match measured(master, h) {
+        Measurement::Measured(d, x) => both_told(d, x),
+        Measurement::Refused(x) => page::tell(b"refused: %n\n", &[refusal::number(x)]),
+    }
+}

@@ -1,0 +1,105 @@
+// A White Rabbit link coming up on the slave's side: each event is taken by the engine, and what it sends is counted.
+use link::Event;
+use link::Sends;
+use link::Settings;
+use links::Taken;
+use tlv::form::CALIBRATE;
+use tlv::form::CALIBRATED;
+use tlv::form::LOCK;
+use tlv::form::MODE_ON;
+
+// How a link came up.
+struct Rise {
+    events: u64,
+    sent: u64,
+    on: bool,
+}
+
+// A port that may be slave and needs calibration.
+fn slave_settings() -> Settings {
+    Settings {
+        config: 2,
+        calibrate: true,
+        retry: 3,
+        period: 3000,
+        tx: 14_680_064_000,
+        rx: 15_073_280_000,
+    }
+}
+
+// The parent's part in wrFlags: config in bits 0 and 1, its mode in bit 3.
+fn start(flags: u16) -> Event {
+    Event::Start {
+        config: (flags % 4) as u8,
+        mode: flags / 8 % 2 == 1,
+    }
+}
+
+// What happens on the way up, in its order.
+fn event(i: u64, flags: u16) -> Event {
+    match i {
+        0 => start(flags),
+        1 => Event::Message(LOCK),
+        3 => Event::Message(CALIBRATE),
+        4 => Event::Message(CALIBRATED),
+        6 => Event::Message(MODE_ON),
+        _ => Event::Done,
+    }
+}
+
+fn messages(s: Sends) -> u64 {
+    match s {
+        Sends::Nothing => 0,
+        Sends::One(_) => 1,
+        Sends::Two(_, _) => 2,
+    }
+}
+
+fn risen(r: Rise, x: Taken) -> Rise {
+    let Taken::Step(s) = x else {
+        return r;
+    };
+    let sends = s.sends;
+    Rise {
+        events: std::num::wrapping_add_u64(r.events, 1),
+        sent: std::num::wrapping_add_u64(r.sent, messages(sends)),
+        on: s.report,
+    }
+}
+
+// One event, taken.
+fn turn(r: Rise, words: &mut [u64; 72], port: u8, e: Event) -> Rise {
+    risen(r, links::take(words, port, e))
+}
+
+// The seven events of a link that comes up on `port` to a parent with these wrFlags.
+fn bring_up(words: &mut [u64; 72], port: u8, flags: u16) -> Rise {
+    links::set(words, port, slave_settings());
+    let mut r = Rise {
+        events: 0,
+        sent: 0,
+        on: false,
+    };
+    let mut i: u64 = 0;
+    while i < 7 {
+        r = turn(r, words, port, event(i, flags));
+        i += 1;
+    }
+    r
+}
+
+// A link brought up at `t`, or not.
+pub fn told(words: &mut [u64; 72], port: u8, flags: u16, t: u64) {
+    let r = bring_up(words, port, flags);
+    if r.on {
+        page::tell(
+            b"%t  port %d: White Rabbit link on after %d events; messages sent: %d\n",
+            &[t, port as u64, r.events, r.sent],
+        );
+    } else {
+        page::tell(
+            b"%t  port %d: White Rabbit link not on\n",
+            &[t, port as u64],
+        );
+    }
+}

@@ -1,0 +1,91 @@
+// A letter an hour for each port, and the table of them.
+ghost use Prim.Native.Nat.{_<_};
+use crate::line;
+use crate::names;
+use crate::tally;
+use crate::text;
+
+// Where a port's letter of an hour stands.
+fn place(port: u8, h: u64) -> usize
+    ensures { λ r. ⌜ r < 456 ⌝ }
+{
+    (port % 19) as usize * 24 + (h % 24) as usize
+}
+
+// The letter of an hour on the port behind the i-th.
+fn letter_put(
+    counts: &mut [u64; 76],
+    strips: &mut [u8; 456],
+    now: &[u8; refusal::PORTS],
+    h: u64,
+    i: u8,
+) {
+    let k = i % 18;
+    let n = tally::turned(counts, k + 1);
+    let at = place(k + 1, h);
+    strips[at] = names::letter(now[k as usize], n);
+}
+
+// The letters of an hour, a port each, by the decisions at its end.
+pub fn lettered(
+    counts: &mut [u64; 76],
+    strips: &mut [u8; 456],
+    now: &[u8; refusal::PORTS],
+    h: u64,
+) {
+    let mut i: u8 = 0;
+    while i < 18 {
+        letter_put(counts, strips, now, h, i);
+        i += 1;
+    }
+}
+
+// A port's day: its strip, and what became of what it heard.
+fn strip_told(counts: &[u64; 76], strips: &[u8; 456], port: u8) {
+    line::tell(b"%4  ", &[port as u64]);
+    text::say(text::front(text::past(strips, place(port, 0)), 24));
+    line::tell(
+        b"%:%:%m\n",
+        &[
+            tally::of(counts, port, tally::TAKEN),
+            tally::of(counts, port, tally::REFUSED),
+            tally::of(counts, port, tally::LAST),
+        ],
+    );
+}
+
+// The strips of the ports that heard anything.
+fn table(counts: &[u64; 76], strips: &[u8; 456]) {
+    let mut port: u8 = 1;
+    while port < 19 {
+        if tally::heard(counts, port) {
+            strip_told(counts, strips, port);
+        }
+        port += 1;
+    }
+}
+
+// The ports that heard nothing, in one line.
+fn silent(counts: &[u64; 76]) {
+    let mut port: u8 = 1;
+    while port < 19 {
+        if !tally::heard(counts, port) {
+            line::tell(b" %d", &[port as u64]);
+        }
+        port += 1;
+    }
+}
+
+// All of them, and what the letters mean.
+pub fn told(counts: &[u64; 76], strips: &[u8; 456]) {
+    text::say(b"\nport  00    06    12    18         taken   refused  last refusal\n");
+    table(counts, strips);
+    text::say(
+        b"a letter an hour: s follows the parent, b backup, m master, p passive; a capital where Announces were refused in that hour
+refusals: 9 DOMAIN another domain, 10 OWN our own clock, 11 BACKWARD the time runs back, 12 STALE sequenceId not newer,
+          13 FULL a new name and sixteen live records; 1 to 7: not a message that can be read
+ports that heard nothing:",
+    );
+    silent(counts);
+    text::say(b"\n");
+}

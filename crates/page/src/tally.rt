@@ -1,0 +1,57 @@
+// What became of what each port heard: four counts a port.
+ghost use Prim.Native.Nat.{_<_};
+use refusal::Outcome;
+
+// The places of a port's counts: Announces taken, refused, the number of the last refusal, and refused in this hour.
+pub const TAKEN: usize = 0;
+
+pub const REFUSED: usize = 1;
+
+pub const LAST: usize = 2;
+
+pub const LATELY: usize = 3;
+
+fn place(port: u8, k: usize) -> usize
+    ensures { λ r. ⌜ r < 76 ⌝ }
+{
+    (port % 19) as usize * 4 + k % 4
+}
+
+// One of a port's counts.
+pub fn of(tally: &[u64; 76], port: u8, k: usize) -> u64 {
+    let i = place(port, k);
+    tally[i]
+}
+
+fn raise(tally: &mut [u64; 76], port: u8, k: usize) {
+    let i = place(port, k);
+    tally[i] = std::num::wrapping_add_u64(tally[i], 1);
+}
+
+fn refused(tally: &mut [u64; 76], port: u8, number: u64) {
+    let i = place(port, LAST);
+    tally[i] = number;
+    raise(tally, port, REFUSED);
+    raise(tally, port, LATELY);
+}
+
+// Notes what became of an Announce on a port.
+pub fn note(tally: &mut [u64; 76], port: u8, x: Outcome) {
+    match x {
+        Outcome::Done => raise(tally, port, TAKEN),
+        Outcome::Refused(r) => refused(tally, port, refusal::number(r)),
+    }
+}
+
+// A new hour begins on a port: how many Announces were refused in the one before.
+pub fn turned(tally: &mut [u64; 76], port: u8) -> u64 {
+    let i = place(port, LATELY);
+    let n = tally[i];
+    tally[i] = 0;
+    n
+}
+
+// Whether a port heard anything.
+pub fn heard(tally: &[u64; 76], port: u8) -> bool {
+    (of(tally, port, TAKEN) != 0) | (of(tally, port, REFUSED) != 0)
+}
