@@ -84,26 +84,33 @@ pub fn record(words: &[u64; ports::WORDS], p: Parent) -> Seen {
     s
 }
 
-// What became of what a looped cable brought back, so many Announces.
-pub fn loop_told(counts: &[u64; 76], port: u8, all: u64, t: u64) {
+// What became of so many Announces of a tenant in this hour.
+fn tried(counts: &[u64; 76], port: u8, all: u64) {
     let refused = tally::of(counts, port, tally::LATELY);
     let taken = std::num::wrapping_sub_u64(all, refused);
     let last = tally::of(counts, port, tally::LAST);
     page::tell(
-        b"%t  port %d: a tenant's cable brings our own Announces back: %d Announces taken, %d refused with %n\n",
-        &[t, port as u64, taken, refused, last],
+        b" %d Announces taken, %d refused with %n\n",
+        &[taken, refused, last],
     );
 }
 
-// What became of what so many new names announced on a port.
-pub fn flood_told(counts: &[u64; 76], port: u8, names: u64, t: u64) {
-    let refused = tally::of(counts, port, tally::LATELY);
-    let taken = std::num::wrapping_sub_u64(std::num::wrapping_add_u64(names, names), refused);
-    let last = tally::of(counts, port, tally::LAST);
+// What became of what a looped cable brought back, so many Announces.
+pub fn loop_told(counts: &[u64; 76], port: u8, all: u64, t: u64) {
     page::tell(
-        b"%t  port %d: %d new names, each heard twice: %d Announces taken, %d refused with %n\n",
-        &[t, port as u64, names, taken, refused, last],
+        b"%t  port %d: a tenant's cable brings our own Announces back:",
+        &[t, port as u64],
     );
+    tried(counts, port, all);
+}
+
+// What became of what so many new names announced on a port, twice each.
+pub fn flood_told(counts: &[u64; 76], port: u8, names: u64, t: u64) {
+    page::tell(
+        b"%t  port %d: %d new names, each heard twice:",
+        &[t, port as u64, names],
+    );
+    tried(counts, port, std::num::wrapping_add_u64(names, names));
 }
 
 // What a port that is flooded keeps, and who the parent is meanwhile.

@@ -73,14 +73,19 @@ fn card_told(words: &[u64; ports::WORDS], card: u8, t: u64) {
     list_told(cards::list(words, card, t));
 }
 
+// What each card hears.
+fn each_told(words: &[u64; ports::WORDS], t: u64) {
+    card_told(words, 0, t);
+    card_told(words, 1, t);
+    card_told(words, 2, t);
+}
+
 // What each card hears, and all of them merged.
 pub fn cards_told(words: &[u64; ports::WORDS], t: u64) {
     page::say(
         b"\nwhat each card ranked of its own six ports, best first, and the three lists merged\n",
     );
-    card_told(words, 0, t);
-    card_told(words, 1, t);
-    card_told(words, 2, t);
+    each_told(words, t);
     page::say(b"  merged        ");
     list_told(cards::all(words, t));
 }

@@ -71,13 +71,15 @@ fn shown(scaled: u64, h: u64) -> u64 {
     }
 }
 
-// A message of a master's, written into a lent buffer.
-fn stamped(clock: u64, sequence: u16, flags: u16, body: Body, out: &mut [u8]) {
+// A message of a master's, written.
+fn stamped(clock: u64, sequence: u16, flags: u16, body: Body) -> [u8; 44] {
     let m = Message {
         header: header(clock, sequence, flags),
         body,
     };
-    written(out, m, b"");
+    let mut out = [0u8; 44];
+    written(&mut out, m, b"");
+    out
 }
 
 // The time that ten octets hold.
@@ -91,8 +93,6 @@ fn time_in(part: &[u8]) -> Stamp {
 // t1 of the hour, from the Follow_Up of a two-step Sync.
 fn origin_time(master: u64, h: u64) -> Stamp {
     let n = (h % 24) as u16;
-    let mut sync = [0u8; 44];
-    let mut follow = [0u8; 44];
     let early = Timestamp {
         seconds: 0,
         nanoseconds: 0,
@@ -101,8 +101,8 @@ fn origin_time(master: u64, h: u64) -> Stamp {
         seconds: h % 24 * 3600,
         nanoseconds: 0,
     };
-    stamped(master, n, TWO_STEP, Body::Sync(early), &mut sync);
-    stamped(master, n, 0, Body::FollowUp(precise), &mut follow);
+    let sync = stamped(master, n, TWO_STEP, Body::Sync(early));
+    let follow = stamped(master, n, 0, Body::FollowUp(precise));
     time_in(origin::origin(&sync, &follow, MAGIC))
 }
 

@@ -220,16 +220,51 @@ fn number(second: u64) -> u16 {
     (second / BEAT % 65536) as u16
 }
 
-// What every even second brings: an Announce of each of those that are there, of the masters with their White Rabbit suffix.
-pub fn beat(words: &mut [u64; ports::WORDS], counts: &mut [u64; 76], second: u64, suffix: &[u8]) {
-    let t = instant(second);
-    let n = number(second);
-    if is_first(second) {
-        heard(words, counts, t, first_master(), n, suffix);
+// Whether the k-th of those that announce at every beat is there, and who it is.
+fn is_there(k: u64, second: u64) -> bool {
+    (k != 0) | is_first(second)
+}
+
+fn who(k: u64, second: u64) -> Speaker {
+    match k {
+        0 => first_master(),
+        1 => second_master(),
+        2 => boundary(second),
+        _ => free(TENANT, 14),
     }
-    heard(words, counts, t, second_master(), n, suffix);
-    heard(words, counts, t, boundary(second), n, b"");
-    heard(words, counts, t, free(TENANT, 14), n, b"");
+}
+
+// What it sends behind its Announce: a master the White Rabbit suffix.
+fn tail(k: u64, suffix: &[u8]) -> &[u8] {
+    if k < 2 {
+        suffix
+    } else {
+        page::front(suffix, 0)
+    }
+}
+
+// An Announce of the k-th, if it is there.
+fn spoke(
+    words: &mut [u64; ports::WORDS],
+    counts: &mut [u64; 76],
+    k: u64,
+    second: u64,
+    suffix: &[u8],
+) {
+    if is_there(k, second) {
+        let t = instant(second);
+        let s = who(k, second);
+        heard(words, counts, t, s, number(second), tail(k, suffix));
+    }
+}
+
+// What every even second brings: an Announce of each of those that are there.
+pub fn beat(words: &mut [u64; ports::WORDS], counts: &mut [u64; 76], second: u64, suffix: &[u8]) {
+    let mut k: u64 = 0;
+    while k < 4 {
+        spoke(words, counts, k, second, suffix);
+        k += 1;
+    }
 }
 
 // The port that a cable brings our own Announces back to.
@@ -251,33 +286,13 @@ pub const NAMES: u64 = 100;
 
 const APART: u64 = 10_000_000;
 
-// A new name, which speaks twice, so that it counts as a candidate where it is kept.
-fn name(
-    words: &mut [u64; ports::WORDS],
-    counts: &mut [u64; 76],
-    port: u8,
-    second: u64,
-    j: u64,
-    from: u64,
-) {
-    let s = flooding(std::num::wrapping_add_u64(from, j), port);
-    heard(words, counts, spoken(second, 2 * (j % NAMES)), s, 1, b"");
-    heard(
-        words,
-        counts,
-        spoken(second, 2 * (j % NAMES) + 1),
-        s,
-        2,
-        b"",
-    );
-}
-
 // The time of the j-th Announce of new names behind a beat.
 pub fn spoken(second: u64, j: u64) -> u64 {
     std::num::wrapping_add_u64(instant(second), j % 256 * APART)
 }
 
-// A hundred new names on a port between two beats, the first of which is `from`.
+// A hundred new names on a port between two beats, the first of which is `from`. Each speaks twice, so that it counts as a candidate
+// where it is kept.
 pub fn flood(
     words: &mut [u64; ports::WORDS],
     counts: &mut [u64; 76],
@@ -286,8 +301,9 @@ pub fn flood(
     from: u64,
 ) {
     let mut j: u64 = 0;
-    while j < NAMES {
-        name(words, counts, port, second, j, from);
+    while j < 2 * NAMES {
+        let s = flooding(std::num::wrapping_add_u64(from, j / 2), port);
+        heard(words, counts, spoken(second, j), s, (j % 2 + 1) as u16, b"");
         j += 1;
     }
 }

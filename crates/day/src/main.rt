@@ -84,6 +84,13 @@ fn tenants(words: &mut [u64; ports::WORDS], counts: &mut [u64; 76], h: u64, i: u
     }
 }
 
+// Who is there speaks, the masters with their White Rabbit suffix.
+fn spoken(words: &mut [u64; ports::WORDS], counts: &mut [u64; 76], second: u64) {
+    let suffix = wr_tlvs::suffix(cast::WR_MASTER, cast::MAGIC);
+    let octets = suffix.octets;
+    cast::beat(words, counts, second, page::front(&octets, suffix.size));
+}
+
 // The i-th beat of an hour: who is there speaks, the parent is asked for, and the tenants do what they do.
 fn beat(
     words: &mut [u64; ports::WORDS],
@@ -93,9 +100,7 @@ fn beat(
     old: Parent,
 ) -> Parent {
     let second = h % 24 * 3600 + i % 1800 * cast::BEAT;
-    let suffix = wr_tlvs::suffix(cast::WR_MASTER, cast::MAGIC);
-    let octets = suffix.octets;
-    cast::beat(words, counts, second, page::front(&octets, suffix.size));
+    spoken(words, counts, second);
     let new = watch::watched(words, old, cast::instant(second));
     tenants(words, counts, h, i % 1800, second);
     new

@@ -44,14 +44,7 @@ pub fn lettered(
 fn strip_told(counts: &[u64; 76], strips: &[u8; 456], port: u8) {
     line::tell(b"%4  ", &[port as u64]);
     text::say(text::front(text::past(strips, place(port, 0)), 24));
-    line::tell(
-        b"%:%:%m\n",
-        &[
-            tally::of(counts, port, tally::TAKEN),
-            tally::of(counts, port, tally::REFUSED),
-            tally::of(counts, port, tally::LAST),
-        ],
-    );
+    line::tell(b"%:%:%m\n", tally::row(counts, port));
 }
 
 // The strips of the ports that heard anything.

@@ -23,6 +23,13 @@ pub fn of(tally: &[u64; 76], port: u8, k: usize) -> u64 {
     tally[i]
 }
 
+// A port's counts, in the order of their places.
+pub fn row(tally: &[u64; 76], port: u8) -> &[u64] {
+    let i = place(port, 0);
+    let all = &tally[..];
+    &all[i..]
+}
+
 fn raise(tally: &mut [u64; 76], port: u8, k: usize) {
     let i = place(port, k);
     tally[i] = std::num::wrapping_add_u64(tally[i], 1);

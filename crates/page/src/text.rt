@@ -41,14 +41,16 @@ fn room(digits: usize, width: usize) -> usize {
     if digits < width { width - digits } else { 1 }
 }
 
+// The blanks before so many digits in a column.
+fn blanks(digits: usize, width: usize) {
+    say(front(b"                              ", room(digits, width)));
+}
+
 // A number at the right end of a column behind a sign, with a blank before it at least.
 fn signed(sign: &[u8], value: u64, width: usize) {
     let mut digits = [0u8; 20];
     let k = io::decimal(value, &mut digits);
-    say(front(
-        b"                              ",
-        room(std::num::wrapping_add_usize(k, sign.len()), width),
-    ));
+    blanks(std::num::wrapping_add_usize(k, sign.len()), width);
     say(sign);
     say(&digits[..k]);
 }
