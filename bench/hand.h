@@ -7,6 +7,7 @@
 
 extern __typeof__(dz_read) c_read;
 extern __typeof__(dz_lookup) c_lookup;
+extern __typeof__(dz_walk) c_walk;
 extern __typeof__(dz_write) c_write;
 extern __typeof__(dz_take) c_take;
 extern __typeof__(dz_best) c_best;

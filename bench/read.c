@@ -1,4 +1,4 @@
-/* A message read, and a TLV looked up, by hand in C. */
+/* A message read, a TLV looked up, and one TLV after another gone through, by hand in C. */
 #include "message.h"
 
 static void put_announce(uint64_t *m, const uint8_t *s)
@@ -66,5 +66,34 @@ dz_answer c_lookup(const uint8_t *s, size_t n, uint16_t type, uint16_t magic, ui
     found[DZ_FOUND] = at < end;
     found[DZ_FOUND_DATA_AT] = at < end ? at + 4 : 0;
     found[DZ_FOUND_DATA_LENGTH] = at < end ? be16(s + at + 2) : 0;
+    return DZ_OK;
+}
+
+/* The words of the TLV at an octet of the message. */
+static void put_tlv(uint64_t *found, const uint8_t *s, size_t at)
+{
+    size_t length = be16(s + at + 2);
+    found[DZ_FOUND] = 1;
+    found[DZ_TLV_AT] = at;
+    found[DZ_TLV_TYPE] = be16(s + at);
+    found[DZ_TLV_LENGTH] = length;
+    found[DZ_TLV_DATA_AT] = at + 4;
+    found[DZ_TLV_END] = at + 4 + length;
+}
+
+dz_answer c_walk(const uint8_t *s, size_t n, size_t from, uint16_t magic, uint64_t *found)
+{
+    size_t at, size, end;
+    uint64_t flags;
+    dz_answer fault = from ? head_fault(s, n, &at, &size) : message_fault(s, n, magic, &at, &size, &flags);
+    if (fault) return fault;
+    end = at + size;
+    if (from > at) at = from;
+    if (at >= end) {
+        for (int i = 0; i < DZ_FOUND_TLV_WORDS; i++) found[i] = 0;
+        return DZ_OK;
+    }
+    if (from && (fault = tlv_fault(s + at, end - at, magic))) return fault | at << 8;
+    put_tlv(found, s, at);
     return DZ_OK;
 }

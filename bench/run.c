@@ -192,6 +192,8 @@ typedef void any_call(void);
 
 static dz_answer read(struct lent *m, any_call *f, uint64_t i) { return (void)i, CALL(read, m->announce, m->length, magic, m->message, m->tail); }
 static dz_answer look_up(struct lent *m, any_call *f, uint64_t i) { return (void)i, CALL(lookup, m->announce, m->length, 3, magic, m->found); }
+static dz_answer begin_walk(struct lent *m, any_call *f, uint64_t i) { return (void)i, CALL(walk, m->announce, m->length, 0, magic, m->found); }
+static dz_answer walk_on(struct lent *m, any_call *f, uint64_t i) { return (void)i, CALL(walk, m->announce, m->length, 64, magic, m->found); }
 static dz_answer write(struct lent *m, any_call *f, uint64_t i) { return (void)i, CALL(write, m->out, ROOM, m->message, m->suffix, DZ_SUFFIX_OCTETS, magic, &m->written); }
 static dz_answer take(struct lent *m, any_call *f, uint64_t t) { return CALL(take, m->ports, PORT, t, m->announce, m->length, 0, own_clock, magic); }
 static dz_answer take_one(struct lent *m, any_call *f, uint64_t i) { return rename(m, 0, (uint16_t)i), take(m, f, second + i); }
@@ -224,6 +226,8 @@ static const struct row {
     {"read", BOTH(read), plain, read, DZ_OK},
     {"read-suffix", BOTH(read), with_suffix, read, DZ_OK},
     {"lookup", BOTH(lookup), with_suffix, look_up, DZ_OK},
+    {"walk", BOTH(walk), with_suffix, begin_walk, DZ_OK},
+    {"walk-on", BOTH(walk), with_suffix, walk_on, DZ_OK},
     {"take-1", BOTH(take), plain, take_one, DZ_OK},
     {"take-16", BOTH(take), plain, take_sixteen, DZ_OK},
     {"full", BOTH(take), full_port, take_new, DZ_REFUSED_FULL},

@@ -17,6 +17,7 @@ static uint8_t announce[78], sync[44] = {[1] = 2, [3] = 44}, frame[64], out[128]
 static void call_version(void) { number = dz_version(); }
 static void call_read(void) { dz_read(announce, sizeof announce, magic, words, found); }
 static void call_lookup(void) { dz_lookup(announce, sizeof announce, 3, magic, found); }
+static void call_walk(void) { dz_walk(announce, sizeof announce, 0, magic, found); }
 static void call_suffix(void) { dz_suffix(announce, sizeof announce, magic, found); }
 static void call_link_message(void) { dz_link_message(frame, 56, magic, found); }
 static void call_origin(void) { dz_origin(sync, sizeof sync, sync, sizeof sync, magic, found); }
@@ -46,7 +47,7 @@ static void call_measure(void) { dz_measure(exchange, words); }
 
 #define CALL(name) {"dz_" #name, call_##name}
 static const struct { const char *name; void (*call)(void); } calls[] = {
-    CALL(version), CALL(read), CALL(lookup), CALL(suffix), CALL(link_message), CALL(origin), CALL(write), CALL(write_link), CALL(write_suffix),
+    CALL(version), CALL(read), CALL(lookup), CALL(walk), CALL(suffix), CALL(link_message), CALL(origin), CALL(write), CALL(write_link), CALL(write_suffix),
     CALL(take), CALL(candidate), CALL(best), CALL(status), CALL(record), CALL(set_interval), CALL(rank), CALL(merge), CALL(decide), CALL(decide_all), CALL(parent),
     CALL(compare), CALL(link_set), CALL(link_start), CALL(link_take), CALL(link_done), CALL(link_timeout), CALL(link_stop), CALL(link_status), CALL(measure),
 };

@@ -86,7 +86,7 @@ dz_answer c_write(uint8_t *out, size_t room, const uint64_t *m, const uint8_t *t
     size_t size = fixed_size(m[DZ_M_TYPE]);
     uint64_t flags;
     if (size == 0 || !header_fits(m) || !body_fits(m)) return DZ_REFUSED_FIELD;
-    if (n > 65535 - size || tail_fault(tail, n, magic, &flags)) return DZ_REFUSED_FIELD;
+    if (n > 65535 - size || tail_fault(tail, n, size, magic, &flags)) return DZ_REFUSED_FIELD;
     if (room < size + n) return DZ_REFUSED_ROOM;
     put_header(out, m, size + n);
     put_body(out, m);

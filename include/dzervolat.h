@@ -13,7 +13,8 @@
            if (parent[DZ_FOUND]) follow(parent[DZ_FOUND_CANDIDATE + DZ_C_PORT]);
        }
 
-   Every call returns a dz_answer: DZ_OK, or the number of its refusal (enum dz_refusal); then nothing that was lent to it has changed.
+   Every call returns a dz_answer: DZ_OK, or the number of its refusal (enum dz_refusal); then nothing that was lent to it has changed. 6 and 7 say
+   where in the message the fault stands, above their number: dz_number(answer), dz_place(answer).
    No call keeps a pointer, allocates, waits or reads a clock: the state is in words that the host lends, and the answers follow from what is
    lent alone. The state is plain memory: zeroed it is fresh, a copy of it is a snapshot, and any words at all have an answer.
 
@@ -48,15 +49,30 @@ extern "C" {
 /* Rises whenever a call, a constant, a place in words or the meaning of one changes; within one number all of it stays. A host compiled with one
    number must not run with a library of another: dz_version() == DZ_VERSION is worth a test at start. State that was kept from a library of another
    number is no longer state. */
-#define DZ_VERSION 1
+#define DZ_VERSION 2
 
-/* What every call returns: 0, or the number of its refusal. It is 64 bits wide on every processor. */
+/* What every call returns: 0, or the number of its refusal in the low eight bits and, of DZ_REFUSED_TLV and DZ_REFUSED_WRBAD, a place above them. It is
+   64 bits wide on every processor. */
 typedef uint64_t dz_answer;
+
+/* The number of an answer (enum dz_refusal). */
+static inline uint64_t dz_number(dz_answer answer)
+{
+    return answer & 0xFF;
+}
+
+/* Where in the message, counted from its octet 0, the TLV begins that is refused, or the one to three octets that are none; 0 where an answer has
+   no place. dz_origin has two messages: the place is one in whichever of them is refused. */
+static inline uint64_t dz_place(dz_answer answer)
+{
+    return answer >> 8;
+}
 
 /* The number of the library that is linked. It refuses nothing and its answer is no refusal. */
 uint64_t dz_version(void);
 
-/* The numbers that refuse. */
+/* The numbers that refuse. An answer is compared as it is, dz_take(..) == DZ_REFUSED_STALE, for every number but 6 and 7: these stand below a place, and
+   dz_number(answer) == DZ_REFUSED_TLV finds them. */
 enum dz_refusal {
     DZ_OK = 0,
     DZ_REFUSED_SHORT = 1,     /* fewer than 34 octets lent, or messageLength exceeds those lent */
@@ -64,8 +80,8 @@ enum dz_refusal {
     DZ_REFUSED_TYPE = 3,      /* a message of another type, or a Follow_Up that is not its Sync's */
     DZ_REFUSED_LENGTH = 4,    /* messageLength below the type's fixed size */
     DZ_REFUSED_STAMP = 5,     /* a timestamp's nanoseconds are 1,000,000,000 or more */
-    DZ_REFUSED_TLV = 6,       /* the tail is not whole TLVs of even length */
-    DZ_REFUSED_WRBAD = 7,     /* a known White Rabbit message with a wrong data size */
+    DZ_REFUSED_TLV = 6,       /* the tail is not whole TLVs of even length: dz_place() is where it breaks off */
+    DZ_REFUSED_WRBAD = 7,     /* a known White Rabbit message with a wrong data size: dz_place() is where the first stands */
     DZ_REFUSED_PORT = 8,      /* port outside 1 to 18 */
     DZ_REFUSED_DOMAIN = 9,    /* domainNumber is not the set one */
     DZ_REFUSED_OWN = 10,      /* the sender's clockIdentity is our own */
@@ -83,10 +99,10 @@ enum dz_refusal {
 #define DZ_SLOTS 16 /* senders a port, numbered from 0 */
 #define DZ_CANDIDATES (DZ_PORTS * DZ_SLOTS) /* the most that are ranked: 288 */
 
-/* The answer as text, for a log. */
+/* The number of an answer as text, for a log. */
 static inline const char *dz_refusal_text(dz_answer answer)
 {
-    switch (answer) {
+    switch (dz_number(answer)) {
     case DZ_OK: return "OK";
     case DZ_REFUSED_SHORT: return "SHORT";
     case DZ_REFUSED_VERSION: return "VERSION";
@@ -165,7 +181,16 @@ enum dz_tail { DZ_TAIL_AT = 0, DZ_TAIL_LENGTH = 1, DZ_TAIL_WORDS = 2 };
 
 /* What looking for something answers: the first word is 1 and the thing follows; all words are 0 where there is none. */
 enum dz_found { DZ_FOUND = 0, DZ_FOUND_CANDIDATE = 1, DZ_FOUND_LINK_MESSAGE = 1, DZ_FOUND_WRFLAGS = 1, DZ_FOUND_DATA_AT = 1, DZ_FOUND_DATA_LENGTH = 2 };
-enum dz_found_words { DZ_FOUND_DATA_WORDS = 3, DZ_FOUND_WRFLAGS_WORDS = 2, DZ_FOUND_LINK_WORDS = 7, DZ_FOUND_WORDS = 12 };
+enum dz_found_words { DZ_FOUND_DATA_WORDS = 3, DZ_FOUND_TLV_WORDS = 6, DZ_FOUND_WRFLAGS_WORDS = 2, DZ_FOUND_LINK_WORDS = 7, DZ_FOUND_WORDS = 12 };
+
+/* A TLV, behind the word DZ_FOUND: places are counted from octet 0 of the message. */
+enum dz_tlv {
+    DZ_TLV_AT = 1,      /* where it stands */
+    DZ_TLV_TYPE = 2,    /* 16 bits */
+    DZ_TLV_LENGTH = 3,  /* how many octets of data it has */
+    DZ_TLV_DATA_AT = 4, /* where they begin: DZ_TLV_AT + 4 */
+    DZ_TLV_END = 5      /* where they end, and the next TLV stands: DZ_TLV_DATA_AT + DZ_TLV_LENGTH */
+};
 
 /* A timestamp. */
 enum dz_stamp { DZ_STAMP_SECONDS = 0, DZ_STAMP_NANOS = 1, DZ_STAMP_WORDS = 2 };
@@ -210,6 +235,17 @@ dz_answer dz_read(const uint8_t *octets, size_t length, uint16_t magic, uint64_t
 
 /* The first TLV of a type: where its data begin in `octets` (DZ_FOUND_DATA_AT), and how many octets they are. Refuses as dz_read. */
 dz_answer dz_lookup(const uint8_t *octets, size_t length, uint16_t type, uint16_t magic, uint64_t found[DZ_FOUND_DATA_WORDS]);
+
+/* The TLV at octet `from`, the first at 0. A loop goes through all of a message's TLVs, in order:
+
+       uint64_t tlv[DZ_FOUND_TLV_WORDS];
+       for (uint64_t at = 0; dz_walk(octets, length, at, magic, tlv) == DZ_OK && tlv[DZ_FOUND]; at = tlv[DZ_TLV_END])
+           show(tlv[DZ_TLV_AT], tlv[DZ_TLV_TYPE], octets + tlv[DZ_TLV_DATA_AT], tlv[DZ_TLV_LENGTH]);
+
+   At 0 it refuses as dz_read. From another octet on it looks at what stands there alone, so that a tail of any length is gone through once: it
+   refuses as dz_read does before 6, then 6 where no whole TLV of even length stands there, 7 where that has a wrong size. At messageLength, and
+   past it, there is none. */
+dz_answer dz_walk(const uint8_t *octets, size_t length, size_t from, uint16_t magic, uint64_t found[DZ_FOUND_TLV_WORDS]);
 
 /* The White Rabbit suffix of an Announce: its wrFlags, 0 to 15 (DZ_FOUND_WRFLAGS). Refuses as dz_read, then 3 if it is another message. */
 dz_answer dz_suffix(const uint8_t *octets, size_t length, uint16_t magic, uint64_t found[DZ_FOUND_WRFLAGS_WORDS]);

@@ -21,6 +21,7 @@ static const struct {
     {"linksettings", call_linksettings},
     {"read", call_read},
     {"lookup", call_lookup},
+    {"walk", call_walk},
     {"suffix", call_suffix},
     {"linkmessage", call_linkmessage},
     {"origin", call_origin},

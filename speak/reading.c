@@ -33,6 +33,37 @@ bool call_lookup(struct clock *clock, struct line *line)
     return true;
 }
 
+/* Goes through the TLVs of a message: how many there are, or a refusal. Where `shown`, it shows each. */
+static dz_answer walk_tlvs(const struct clock *clock, const struct octets *octets, bool shown, uint64_t *count)
+{
+    uint64_t tlv[DZ_FOUND_TLV_WORDS] = {0};
+    dz_answer answer = DZ_OK;
+    *count = 0;
+    for (uint64_t at = 0; (answer = dz_walk(octets->octet, octets->length, at, clock->magic, tlv)) == DZ_OK && tlv[DZ_FOUND]; at = tlv[DZ_TLV_END]) {
+        *count += 1;
+        if (!shown) continue;
+        show_number(tlv[DZ_TLV_AT]);
+        show_number(tlv[DZ_TLV_TYPE]);
+        show_number(tlv[DZ_TLV_LENGTH]);
+    }
+    return answer;
+}
+
+/* walk OCTETS */
+bool call_walk(struct clock *clock, struct line *line)
+{
+    static struct octets octets;
+    uint64_t count;
+    take_octets(line, &octets);
+    if (!line_is_whole(line)) return false;
+    if (accepted(walk_tlvs(clock, &octets, false, &count))) {
+        say("ok");
+        show_number(count);
+        walk_tlvs(clock, &octets, true, &count);
+    }
+    return true;
+}
+
 /* suffix OCTETS */
 bool call_suffix(struct clock *clock, struct line *line)
 {

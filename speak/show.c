@@ -115,7 +115,8 @@ bool accepted(dz_answer answer)
 {
     if (answer == DZ_OK) return true;
     say("refused");
-    show_number(answer);
+    show_number(dz_number(answer));
+    if (dz_place(answer) != 0) show_number(dz_place(answer));
     return false;
 }
 

@@ -97,7 +97,7 @@ bool next_line(struct token *line);
 typedef bool call(struct clock *clock, struct line *line);
 
 call call_fresh, call_clock, call_domain, call_magic, call_own, call_interval, call_linksettings; /* settings.c */
-call call_read, call_lookup, call_suffix, call_linkmessage, call_origin;                          /* reading.c */
+call call_read, call_lookup, call_walk, call_suffix, call_linkmessage, call_origin;               /* reading.c */
 call call_write, call_signal, call_suffixtlv;                                                     /* writing.c */
 call call_take, call_candidates, call_best, call_records;                                         /* records.c */
 call call_compare, call_rank, call_merge, call_decide, call_all, call_parent;                     /* ranking.c */

@@ -157,9 +157,12 @@ static dz_answer end(dz_answer answer, uint32_t given)
 {
     const uint8_t *at = (const uint8_t *)memory, *now, *stop = (const uint8_t *)(memory + sizeof memory / 8);
     calls++;
-    expect(answer <= DZ_REFUSED_FIELD, "a number past 18");
-    answers[answer]++;
-    expect(given >> answer & 1, "a number that it cannot give");
+    uint64_t number = dz_number(answer);
+    int placed = number == DZ_REFUSED_TLV || number == DZ_REFUSED_WRBAD;
+    expect(number <= DZ_REFUSED_FIELD, "a number past 18");
+    answers[number]++;
+    expect(given >> number & 1, "a number that it cannot give");
+    expect(placed ? dz_place(answer) >= 44 && dz_place(answer) < 65536 : dz_place(answer) == 0, "a place that its number has not");
     for (int b = 0; b <= BOXES; b++, at = now) {
         const uint8_t *to = b < BOXES ? octets(b) : stop;
         now = b == BOXES ? stop : answer ? to : changeable[b];
@@ -302,6 +305,13 @@ static dz_answer look_up(size_t n, uint16_t type)
     begin("dz_lookup");
     may(FOUND, DZ_FOUND_DATA_WORDS);
     return end(dz_lookup(octets(FRAME), n, type, magic, words(FOUND)), READING);
+}
+
+static dz_answer walk(size_t n, uint64_t from)
+{
+    begin("dz_walk");
+    may(FOUND, DZ_FOUND_TLV_WORDS);
+    return end(dz_walk(octets(FRAME), n, from, magic, words(FOUND)), READING);
 }
 
 static dz_answer suffix(size_t n)
@@ -938,6 +948,21 @@ static void expect_round_trip(size_t at, size_t l)
     expect(!memcmp(octets(OUT) + at, octets(TAIL), l), "another tail");
 }
 
+/* A walk is refused as reading is, or goes from the tail's start to its end, and the first TLV of a type that it meets is the one that is looked up. */
+static void expect_walk(size_t n, dz_answer read, uint64_t at, uint64_t l)
+{
+    const uint64_t *tlv = words(FOUND), end = at + l;
+    must_be(walk(n, 0), read);
+    while (read == DZ_OK && tlv[DZ_FOUND]) {
+        expect(tlv[DZ_TLV_AT] == at && tlv[DZ_TLV_DATA_AT] == at + 4 && tlv[DZ_TLV_END] == at + 4 + tlv[DZ_TLV_LENGTH], "a TLV that does not stand where the one before ended");
+        expect(octets(FRAME)[at + 1] == tlv[DZ_TLV_TYPE] % 256 && octets(FRAME)[at + 3] == tlv[DZ_TLV_LENGTH] % 256, "another TLV");
+        at = tlv[DZ_TLV_END];
+        must_be(walk(n, at), DZ_OK);
+    }
+    if (read == DZ_OK) expect(at == end, "a walk that ends before the tail does");
+    walk(n, below(OCTETS));
+}
+
 /* All that reads a message refuses it as reading does, or answers what lies in it. */
 static void try_reading(void)
 {
@@ -955,6 +980,7 @@ static void try_reading(void)
         expect(words(FOUND)[DZ_FOUND_DATA_AT] + words(FOUND)[DZ_FOUND_DATA_LENGTH] <= at + l, "data past the end");
         expect(data[-3] == sought && data[-1] == words(FOUND)[DZ_FOUND_DATA_LENGTH] % 256, "data of another TLV");
     }
+    expect_walk(n, read, at, l);
     other = suffix(n);
     must_be(other, read || type == DZ_ANNOUNCE ? read : DZ_REFUSED_TYPE);
     if (other == DZ_OK) expect(words(FOUND)[DZ_FOUND_WRFLAGS] <= (DZ_WRFLAGS_CONFIG | DZ_WRFLAGS_CALIBRATED | DZ_WRFLAGS_MODE_ON), "wrFlags past 15");

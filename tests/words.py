@@ -53,6 +53,9 @@ def of(variable, fields):
     return {f"{variable}.{field}": name for field, name in fields.items()}
 
 
+# Definitions that work a word out of several fields: the word is named after them.
+WORKED_OUT = {"beginOf", "endOf"}
+
 # What a definition gives in words. A constant is named by the definition that it stands in. The last of each line is how many words there are.
 PACKED = [
     ("candidate_words.candidateWords", of("c", CANDIDATE), "DZ_CANDIDATE_WORDS"),
@@ -63,6 +66,9 @@ PACKED = [
     ("message_words.messageWords", of("m", HEADER | of("body", BODY)), "DZ_MESSAGE_WORDS"),
     ("message_words.tailWords", {"Whole.m.body": "DZ_TAIL_AT", "size": "DZ_TAIL_LENGTH"}, "DZ_TAIL_WORDS"),
     ("message_words.tlvWords", {"tlvWords": "DZ_FOUND", "Found.at": "DZ_FOUND_DATA_AT", "size": "DZ_FOUND_DATA_LENGTH"}, "DZ_FOUND_DATA_WORDS"),
+    ("message_words.walkedWords", {
+        "walkedWords": "DZ_FOUND", "Next.x.place": "DZ_TLV_AT", "Next.x.kind": "DZ_TLV_TYPE", "Next.x.length": "DZ_TLV_LENGTH",
+        "Next.x.beginOf": "DZ_TLV_DATA_AT", "Next.x.endOf": "DZ_TLV_END"}, "DZ_FOUND_TLV_WORDS"),
     ("message_words.suffixWords", {"suffixWords": "DZ_FOUND", "Flags.n": "DZ_FOUND_WRFLAGS"}, "DZ_FOUND_WRFLAGS_WORDS"),
     ("message_words.linkWords", {"linkWords": "DZ_FOUND", "Message.m": "DZ_FOUND_LINK_MESSAGE"}, "DZ_FOUND_LINK_WORDS"),
     ("message_words.linkMessageWords", {
@@ -281,6 +287,8 @@ def called(name, arguments, near, begun):
     elif known and known.of_words:
         path = next((x for x in arguments if isinstance(x, Field)), ())
         yield from applied(known, arguments, path, name)
+    elif name in WORKED_OUT:
+        yield Field((*arguments[0], name))
     else:
         inner = [x for x in arguments if isinstance(x, (Field, Word, dict))]
         width = f"{arguments[0]} octets" if name == "be" else None

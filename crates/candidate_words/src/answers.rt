@@ -89,7 +89,7 @@ pub fn put_ranking(out: &mut [u64; 45], x: Ranking) -> u64
     let outcome = x.outcome;
     let list = x.list;
     match outcome {
-        Outcome::Refused(y) => refusal::number(y),
+        Outcome::Refused(y) => refusal::answer(y),
         Outcome::Done => {
             *out = crate::candidates::ranked_words(list);
             0

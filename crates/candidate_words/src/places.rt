@@ -212,7 +212,7 @@ pub fn rank_run(run: &[[u64; 11]], out: &mut [u64; 45]) -> u64
 {
     let x = checked(run);
     match x {
-        Outcome::Refused(y) => refusal::number(y),
+        Outcome::Refused(y) => refusal::answer(y),
         Outcome::Done => {
             let p = fill(run, none(), 0, run.len());
             put(out, run, p);

@@ -43,6 +43,9 @@ dz-compare-determined κs a x y v w p q = (p .0 ∙ sym (q .0), λ i. (tt, (tt, 
 pub dz-read-determined : Fixes its.reading.dz_read.ended its.reading.dz_read.Reads.Post
 dz-read-determined κs a x y v w p q = (p .0 ∙ sym (q .0), λ i. (tt, (tt, ((p .1 .0 ∙ sym (q .1 .0)) i, ((p .1 .1 ∙ sym (q .1 .1)) i, w .1 .1 .1 .1)))))
 
+pub dz-walk-determined : Fixes its.reading.dz_walk.ended its.reading.dz_walk.Reads.Post
+dz-walk-determined κs a x y v w p q = (p .0 ∙ sym (q .0), λ i. (tt, (tt, (tt, ((p .1 ∙ sym (q .1)) i, w .1 .1 .1 .1)))))
+
 pub dz-lookup-determined : Fixes its.reading.dz_lookup.ended its.reading.dz_lookup.Reads.Post
 dz-lookup-determined κs a x y v w p q = (p .0 ∙ sym (q .0), λ i. (tt, (tt, (tt, ((p .1 ∙ sym (q .1)) i, w .1 .1 .1 .1)))))
 

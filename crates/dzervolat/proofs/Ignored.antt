@@ -10,20 +10,23 @@ use denote.Ref.{now}
 use Rattle.refusal.specs.Refusal.{codeOf}
 use Rattle.message.specs.Reading.{readOf}
 use Rattle.message.specs.Parts.{tailIn, dataIn, lookupOf, suffixOf, linkOf}
+use Rattle.message.specs.Tlvs.{nextIn}
 use Rattle.message.specs.Ignored.{Alike}
-use Rattle.message.proofs.Ignored.{read-same, tail-in-same, data-same, lookup-same, suffix-same, link-same}
+use Rattle.message.proofs.Ignored.{read-same, tail-in-same, data-same, lookup-same, walk-same, suffix-same, link-same}
 use Rattle.origin.specs.Origin.{originCheck, originIn}
 use Rattle.origin.proofs.Ignored.{origin-check-same, origin-same}
 use Rattle.senders.specs.Port.{outcomeOf}
 use Rattle.ports.specs.Intake.{planAt, stateAfter}
 use Rattle.ports.proofs.Ignored.{plan-same}
 use Rattle.words.specs.Words.{portOf}
-use Rattle.message_words.specs.Answers.{readCode, readWords, tailWords, tlvCode, tlvWords, suffixCode, suffixWords, linkCode, linkWords, originWords}
+use Rattle.message_words.specs.Answers.{readCode, readWords, tailWords, tlvCode, tlvWords, walkedCode, walkedWords, suffixCode, suffixWords, linkCode, linkWords, originWords}
 use Rattle.dzervolat.specs.Settings.{settings}
 use Rattle.dzervolat.proofs.reading.dz_read.Reads as dz-read
 use Rattle.dzervolat.proofs.reading.dz_read.Kinds as dz-read-kinds
 use Rattle.dzervolat.proofs.reading.dz_lookup.Reads as dz-lookup
 use Rattle.dzervolat.proofs.reading.dz_lookup.Kinds as dz-lookup-kinds
+use Rattle.dzervolat.proofs.reading.dz_walk.Reads as dz-walk
+use Rattle.dzervolat.proofs.reading.dz_walk.Kinds as dz-walk-kinds
 use Rattle.dzervolat.proofs.reading.dz_suffix.Reads as dz-suffix
 use Rattle.dzervolat.proofs.reading.dz_suffix.Kinds as dz-suffix-kinds
 use Rattle.dzervolat.proofs.reading.dz_link_message.Reads as dz-link-message
@@ -54,6 +57,14 @@ module _ (κs : Lfts 2) (a b : Dens κs dz-lookup-kinds.ps) (x y : resT dz-looku
       let r = lookup-same (now (a .0)) (now (b .0)) s (a .1 .1 .0) (a .1 .0) ∙ (λ i. lookupOf (m i) (k i) (now (b .0))) in
       let d = data-same (now (a .0)) (now (b .0)) s (a .1 .1 .0) (a .1 .0) ∙ (λ i. dataIn (m i) (k i) (now (b .0))) in
       (p .0 ∙ ap tlvCode r ∙ sym (q .0), p .1 ∙ (λ i. tlvWords (r i) (length (d i)) (w i)) ∙ sym (q .1))
+
+module _ (κs : Lfts 2) (a b : Dens κs dz-walk-kinds.ps) (x y : resT dz-walk-kinds.r κs .Denot)
+    (e f : AtExit (endedOf 2 dz-walk-kinds.ps dz-walk-kinds.r) κs) where
+  pub dz-walk-ignores : Alike (now (a .0)) (now (b .0)) → a .1 .0 ≡ b .1 .0 → a .1 .1 .0 ≡ b .1 .1 .0 → now (a .1 .1 .1 .0) ≡ now (b .1 .1 .1 .0)
+      → dz-walk.Post κs a x e → dz-walk.Post κs b y f → (x ≡ y) × (now (e .1 .1 .1 .0) ≡ now (f .1 .1 .1 .0))
+  dz-walk-ignores s k m w p q =
+      let r = walk-same (now (a .0)) (now (b .0)) s (a .1 .1 .0) (a .1 .0) ∙ (λ i. nextIn (m i) (k i) (now (b .0))) in
+      (p .0 ∙ ap walkedCode r ∙ sym (q .0), p .1 ∙ (λ i. walkedWords (r i) (w i)) ∙ sym (q .1))
 
 module _ (κs : Lfts 2) (a b : Dens κs dz-suffix-kinds.ps) (x y : resT dz-suffix-kinds.r κs .Denot)
     (e f : AtExit (endedOf 2 dz-suffix-kinds.ps dz-suffix-kinds.r) κs) where

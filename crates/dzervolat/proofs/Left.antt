@@ -16,6 +16,8 @@ use Rattle.message.specs.declared.reading.Reading.{Reading}
 use Rattle.message.specs.declared.reading.Reading.the-variants as reading
 use Rattle.message.specs.declared.parts.TlvRead.{TlvRead}
 use Rattle.message.specs.declared.parts.TlvRead.the-variants as lookup
+use Rattle.message.specs.declared.tlvs.Walked.{Walked}
+use Rattle.message.specs.declared.tlvs.Walked.the-variants as walked
 use Rattle.message.specs.declared.parts.SuffixRead.{SuffixRead}
 use Rattle.message.specs.declared.parts.SuffixRead.the-variants as flags
 use Rattle.message.specs.declared.parts.LinkRead.{LinkRead}
@@ -59,7 +61,7 @@ use Rattle.candidate_words.specs.Fits.{grandmasterFits, outcomeFitted}
 use Rattle.candidate_words.specs.Answers.{statusCode, statusWords, lookedCode, lookedWords, listWords, rankingWords, decidedCode, decidedWords, leaderCode, leaderWords}
 use Rattle.message_words.specs.Words.{isWhole, messageOf}
 use Rattle.message_words.specs.Writing.{linkMessageOf, writtenCode, writtenWords}
-use Rattle.message_words.specs.Answers.{readCode, readWords, tailWords, tlvCode, tlvWords, suffixCode, suffixWords, linkCode, linkWords, originWords}
+use Rattle.message_words.specs.Answers.{readCode, readWords, tailWords, tlvCode, tlvWords, walkedCode, walkedWords, suffixCode, suffixWords, linkCode, linkWords, originWords}
 use Rattle.link_words.specs.Steps.{takenCode, takenWords}
 use Rattle.exchange_words.specs.Exchanges.{measuredCode, measuredWords}
 use Rattle.dzervolat.specs.Ranking.{electedBy, decisionsAfter, setsFit, comparedOf, comparedAfter}
@@ -86,6 +88,11 @@ pub tlv-left : (x : TlvRead) (size : ℕ) (out : List ℕ) → Left (tlvCode x) 
 tlv-left (lookup.Found at) size out h = absurd (h refl)
 tlv-left lookup.Absent size out h = absurd (h refl)
 tlv-left (lookup.Refused x) size out h = refl
+
+pub walked-left : (x : Walked) (out : List ℕ) → Left (walkedCode x) out (walkedWords x out)
+walked-left (walked.Next x) out h = absurd (h refl)
+walked-left walked.End out h = absurd (h refl)
+walked-left (walked.Refused x) out h = refl
 
 pub suffix-left : (x : SuffixRead) (out : List ℕ) → Left (suffixCode x) out (suffixWords x out)
 suffix-left (flags.Flags n) out h = absurd (h refl)

@@ -11,6 +11,7 @@ use denote.Triple.Clauses.{AtExit}
 use denote.Ref.{now}
 use Rattle.message.specs.Reading.{readOf}
 use Rattle.message.specs.Parts.{tailIn, dataIn, lookupOf, suffixOf, linkOf}
+use Rattle.message.specs.Tlvs.{nextIn}
 use Rattle.origin.specs.Origin.{originCheck, originIn}
 use Rattle.ports.specs.Asking.{candidateOn, bestOn, statusOf, lookedAt}
 use Rattle.ports.specs.Intake.{planAt}
@@ -21,7 +22,7 @@ use Rattle.exchange_words.specs.Exchanges.{measuredOf}
 use Rattle.dzervolat.specs.Settings.{settings, linkSettings}
 use Rattle.dzervolat.specs.Ranking.{rankedRun, mergedLists, decidedBy, electedBy, parentIn}
 use Rattle.dzervolat.specs.Writing.{wordsWritten, linkWritten}
-use Rattle.dzervolat.proofs.Left.{Left, left-by, asked-left, carried-left, compared-left, decided-left, decisions-left, interval-left, leader-left, looked-left, measured-left, origin-left, ranking-left, read-left, setting-left, signaling-left, status-left, step-left, suffix-left, tail-left, take-left, taken-left, tlv-left, words-left, written-left}
+use Rattle.dzervolat.proofs.Left.{Left, left-by, asked-left, carried-left, compared-left, decided-left, decisions-left, interval-left, leader-left, looked-left, measured-left, origin-left, ranking-left, read-left, setting-left, signaling-left, status-left, step-left, suffix-left, tail-left, take-left, taken-left, tlv-left, walked-left, words-left, written-left}
 use Rattle.dzervolat.proofs.records.dz_take.Reads as dz-take
 use Rattle.dzervolat.proofs.records.dz_take.Kinds as dz-take-kinds
 use Rattle.dzervolat.proofs.records.dz_candidate.Reads as dz-candidate
@@ -50,6 +51,8 @@ use Rattle.dzervolat.proofs.reading.dz_read.Reads as dz-read
 use Rattle.dzervolat.proofs.reading.dz_read.Kinds as dz-read-kinds
 use Rattle.dzervolat.proofs.reading.dz_lookup.Reads as dz-lookup
 use Rattle.dzervolat.proofs.reading.dz_lookup.Kinds as dz-lookup-kinds
+use Rattle.dzervolat.proofs.reading.dz_walk.Reads as dz-walk
+use Rattle.dzervolat.proofs.reading.dz_walk.Kinds as dz-walk-kinds
 use Rattle.dzervolat.proofs.reading.dz_suffix.Reads as dz-suffix
 use Rattle.dzervolat.proofs.reading.dz_suffix.Kinds as dz-suffix-kinds
 use Rattle.dzervolat.proofs.reading.dz_link_message.Reads as dz-link-message
@@ -132,6 +135,10 @@ module _ (κs : Lfts 3) (a : Dens κs dz-read-kinds.ps) (x : resT dz-read-kinds.
 module _ (κs : Lfts 2) (a : Dens κs dz-lookup-kinds.ps) (x : resT dz-lookup-kinds.r κs .Denot) (e : AtExit (endedOf 2 dz-lookup-kinds.ps dz-lookup-kinds.r) κs) where
   pub dz-lookup-left : dz-lookup.Post κs a x e → Left x (now (a .1 .1 .1 .0)) (now (e .1 .1 .1 .0))
   dz-lookup-left p = left-by (p .0) (p .1) (tlv-left (lookupOf (a .1 .1 .0) (a .1 .0) (now (a .0))) (length (dataIn (a .1 .1 .0) (a .1 .0) (now (a .0)))) (now (a .1 .1 .1 .0)))
+
+module _ (κs : Lfts 2) (a : Dens κs dz-walk-kinds.ps) (x : resT dz-walk-kinds.r κs .Denot) (e : AtExit (endedOf 2 dz-walk-kinds.ps dz-walk-kinds.r) κs) where
+  pub dz-walk-left : dz-walk.Post κs a x e → Left x (now (a .1 .1 .1 .0)) (now (e .1 .1 .1 .0))
+  dz-walk-left p = left-by (p .0) (p .1) (walked-left (nextIn (a .1 .1 .0) (a .1 .0) (now (a .0))) (now (a .1 .1 .1 .0)))
 
 module _ (κs : Lfts 2) (a : Dens κs dz-suffix-kinds.ps) (x : resT dz-suffix-kinds.r κs .Denot) (e : AtExit (endedOf 2 dz-suffix-kinds.ps dz-suffix-kinds.r) κs) where
   pub dz-suffix-left : dz-suffix.Post κs a x e → Left x (now (a .1 .1 .0)) (now (e .1 .1 .0))

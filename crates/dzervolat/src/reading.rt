@@ -4,8 +4,9 @@ ghost use lib.ListN.{length};
 ghost use Rattle.refusal.specs.Refusal.{codeOf};
 ghost use Rattle.message.specs.Reading.{readOf};
 ghost use Rattle.message.specs.Parts.{tailIn, dataIn, lookupOf, suffixOf, linkOf};
+ghost use Rattle.message.specs.Tlvs.{nextIn};
 ghost use Rattle.origin.specs.Origin.{originCheck, originIn};
-ghost use Rattle.message_words.specs.Answers.{readCode, readWords, tailWords, tlvCode, tlvWords, suffixCode, suffixWords, linkCode, linkWords, originWords};
+ghost use Rattle.message_words.specs.Answers.{readCode, readWords, tailWords, tlvCode, tlvWords, walkedCode, walkedWords, suffixCode, suffixWords, linkCode, linkWords, originWords};
 use refusal::Outcome;
 
 // A message in twenty words, and where its tail begins and how long it is.
@@ -42,6 +43,16 @@ pub extern "C" fn dz_lookup(octets: &[u8], kind: u16, magic: u16, found: &mut [u
     message_words::answers::put_tlv(found, x, length)
 }
 
+// The first TLV that stands at octet `from` or later: 1, where it stands in the message, its type, how many octets of data it has,
+// where they begin and where it ends; or zeros.
+#[no_mangle]
+pub extern "C" fn dz_walk(octets: &[u8], from: usize, magic: u16, found: &mut [u64; 6]) -> u64
+    ensures answer { λ r. ⌜ r ≡ walkedCode (nextIn magic from (now (octets .entry))) ⌝ }
+    ensures words { λ _. ⌜ now (found .exit) ≡ walkedWords (nextIn magic from (now (octets .entry))) (now (found .entry)) ⌝ }
+{
+    message_words::answers::put_walked(found, message::tlvs::next_tlv(octets, from, magic))
+}
+
 // The suffix of an Announce: 1 and wrFlags, or zeros.
 #[no_mangle]
 pub extern "C" fn dz_suffix(octets: &[u8], magic: u16, found: &mut [u64; 2]) -> u64
@@ -72,7 +83,7 @@ pub extern "C" fn dz_origin<'a>(
     ensures words { λ _. ⌜ now (stamp .exit) ≡ originWords (originCheck magic (now (sync .entry)) (now (follow .entry))) (originIn magic (now (sync .entry)) (now (follow .entry))) (now (stamp .entry)) ⌝ }
 {
     match origin::origin_says(sync, follow, magic) {
-        Outcome::Refused(x) => refusal::number(x),
+        Outcome::Refused(x) => refusal::answer(x),
         Outcome::Done => {
             message_words::answers::put_origin(stamp, origin::checked_origin(sync, follow));
             0

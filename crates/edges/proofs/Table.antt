@@ -4,7 +4,7 @@ use Rattle.refusal.specs.Choice.{refuse}
 use Rattle.octets.specs.Be.{be}
 use Rattle.tlv.specs.Walk.{nextOf, walkBy, walk}
 use Rattle.tlv.specs.Form.{HasForm, numbered, suffixAt}
-use Rattle.tlv.specs.Faults.{tailCheck}
+use Rattle.tlv.specs.Faults.{faultOf}
 use Rattle.tlv.specs.Wr.{suffixIn}
 use Rattle.senders.specs.Port.{tab, planOf, first}
 use Rattle.decide.specs.Comparing.{fewerOf, sameOf, compareOf}
@@ -13,5 +13,5 @@ use Rattle.delay.specs.Range.{stampGood, stampsGood, correctionsGood, latencies
 use Rattle.edges.specs.Edges.{All, table}
 
 pub edges : All table
-unfolding be suffixIn suffixAt numbered HasForm nextOf walkBy walk tailCheck refuse tab planOf first compareOf sameOf fewerOf t1 t2 t3 t4 share delay offset stampGood stampsGood correctionsGood latenciesGood differencesGood inputsGood inRange
+unfolding be suffixIn suffixAt numbered HasForm nextOf walkBy walk faultOf refuse tab planOf first compareOf sameOf fewerOf t1 t2 t3 t4 share delay offset stampGood stampsGood correctionsGood latenciesGood differencesGood inputsGood inRange
 edges = (refl, (refl, (refl, (refl, (refl, (refl, (refl, (refl, (refl, (refl, (refl, (refl, tt))))))))))))

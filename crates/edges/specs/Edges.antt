@@ -5,10 +5,11 @@ use mathlib.Core.List.{List, [], _∷_}
 use mathlib.Core.Bool.{true, false}
 use lib.IntN.{ℤ, pos, negsuc}
 use lib.ListN.{getD}
-use Rattle.refusal.specs.declared.Refusal.the-variants.{Tlv, Stale}
+use Rattle.refusal.specs.declared.Refusal.the-variants.{Stale}
 use Rattle.refusal.specs.declared.Outcome.{Outcome}
 use Rattle.refusal.specs.declared.Outcome.the-variants.{Done, Refused}
-use Rattle.tlv.specs.Faults.{tailCheck}
+use Rattle.tlv.specs.Faults.{faultOf}
+use Rattle.tlv.specs.declared.walk.Fault.the-variants.{Broken}
 use Rattle.tlv.specs.Wr.{suffixIn}
 use Rattle.tlv.specs.declared.wr.Suffix.{Suffix}
 use Rattle.tlv.specs.declared.wr.Suffix.the-variants.{Flags}
@@ -103,7 +104,7 @@ none = []
 abbrev pub table : List Row
 table =
     row (suffixIn 0xABCD (suffixOf 0x0A)) (Flags 7)  -- (1)
-    ∷ row (tailCheck 0xABCD (suffixOf 9)) (Refused Tlv)  -- (2)
+    ∷ row (faultOf 0xABCD (suffixOf 9)) (Broken 0)  -- (2): 6, and where
     ∷ row (isQualified window 4000000000 heardTwice) true  -- (3)
     ∷ row (isQualified window 4000000001 heardTwice) false  -- (4)
     ∷ row (isLive window 5000000000 heardTwice) true  -- (5)

@@ -12,9 +12,10 @@ use Rattle.refusal.specs.Choice.{refuse}
 use Rattle.refusal.proofs.Choice.{passed}
 use Rattle.refusal.specs.declared.Outcome.{Outcome}
 use Rattle.refusal.specs.declared.Outcome.the-variants.{Done, Refused}
-use Rattle.tlv.specs.Faults.{tailCheck}
+use Rattle.tlv.specs.Faults.{faultOf}
+use Rattle.tlv.specs.declared.walk.Fault.the-variants.{Sound}
 use Rattle.message.specs.Fields.{typeOf, versionOf, lengthOf, fixedSize, tailOf}
-use Rattle.message.specs.Reading.{badStamp, checkOf}
+use Rattle.message.specs.Reading.{badStamp, faultCheck, checkOf}
 use Rattle.message.specs.Parts.{announceLength, refusalOf, announcedOf}
 use Rattle.message.specs.declared.announce.Announced.the-variants as announced
 use Rattle.message.proofs.Laws.{accepted}
@@ -75,11 +76,11 @@ module _ (s : List ℕ) where
       omega arith
 
   -- such octets are accepted where stamp and tail are
-  pub sized-check : (magic : ℕ) → Sized → be 4 s 40 < 1000000000 → tailCheck magic (tailOf s) ≡ Done → checkOf magic s ≡ Done
+  pub sized-check : (magic : ℕ) → Sized → be 4 s 40 < 1000000000 → faultOf magic (tailOf s) ≡ Sound → checkOf magic s ≡ Done
   unfolding checkOf refuse fixedSize
   sized-check magic z h t =
       rw (le-ltb (length s) 34 (omega (arith, z .room)), eq-eqb _ _ (z .version), z .type, le-ltb _ _ (z .least), le-ltb _ _ (z .lent), lt-leb _ _ h)
-      (rw (z .type) at t)
+      (ap (faultCheck 64) (rw (z .type) at t))
 
 -- what cannot be an Announce is refused by the checks, else for its type
 pub by-checks : (magic : ℕ) (s : List ℕ) → (checkOf magic s ≡ Done → typeOf s ≡ 0xB → ⊥) → announced.Refused (refusalOf magic s) ≡ announcedOf magic s

@@ -55,3 +55,15 @@ sound-fixed-bounds-determined κs a x y v w p q = (p ∙ sym q, refl)
 
 pub sound-sound-bounds-determined : Fixes its.sound.sound_bounds.ended its.sound.sound_bounds.Reads.Post
 sound-sound-bounds-determined κs a x y v w p q = (p ∙ sym q, refl)
+
+pub reading-tail-check-determined : Fixes its.reading.tail_check.ended its.reading.tail_check.Reads.Post
+reading-tail-check-determined κs a x y v w p q = (p ∙ sym q, refl)
+
+pub reading-place-in-determined : Fixes its.reading.place_in.ended its.reading.place_in.Reads.Post
+reading-place-in-determined κs a x y v w p q = (p ∙ sym q, refl)
+
+pub tlvs-next-tlv-determined : Fixes its.tlvs.next_tlv.ended its.tlvs.next_tlv.Reads.Post
+tlvs-next-tlv-determined κs a x y v w p q = (p ∙ sym q, refl)
+
+pub tlvs-next-data-determined : FixesPart its.tlvs.next_data.ended its.tlvs.next_data.Reads.Post (λ κs. now)
+tlvs-next-data-determined κs a x y v w p q = (p ∙ sym q, refl)

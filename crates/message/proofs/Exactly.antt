@@ -11,22 +11,24 @@ use lib.Dec.{eqb, ltb}
 use lib.ListN.{length}
 use Rattle.laws.proofs.Bools.{decided}
 use Rattle.refusal.specs.Choice.{pick, refuse}
-use Rattle.refusal.specs.Refusal.{numberOf, codeOf}
+use Rattle.refusal.specs.Refusal.{placed, answerOf, codeOf}
+use Rattle.refusal.proofs.Numbers.{answered}
 use Rattle.refusal.specs.declared.Refusal.{Refusal}
-use Rattle.refusal.specs.declared.Refusal.the-variants.{Short, Version, «Type», Length, Stamp, Tlv, WrBad, Port, Domain, Own, Backward, Stale, Full, Range, Unranked, Room, Many, Field}
+use Rattle.refusal.specs.declared.Refusal.the-variants.{Short, Version, «Type», Length, Stamp, Tlv, WrBad}
 use Rattle.refusal.specs.declared.Outcome.{Outcome}
 use Rattle.refusal.specs.declared.Outcome.the-variants.{Done, Refused}
-use Rattle.tlv.specs.Walk.{TlvAt, FirstTlv, NoTlv}
+use Rattle.tlv.specs.Walk.{BreaksAt, FirstTlv, NoTlv}
 use Rattle.tlv.specs.Form.{misfitAt}
-use Rattle.tlv.specs.Faults.{whole, misfit, tailCheck}
+use Rattle.tlv.specs.Faults.{whole, misfit, faultOf}
 use Rattle.tlv.specs.Wr.{suffixIn, linkIn}
 use Rattle.tlv.specs.declared.wr.Suffix.{Suffix}
 use Rattle.tlv.specs.declared.wr.Suffix.the-variants as suffix
 use Rattle.tlv.specs.declared.wr.LinkFound.{LinkFound}
 use Rattle.tlv.specs.declared.wr.LinkFound.the-variants as found
-use Rattle.tlv.proofs.Reached.{reached-whole, whole-reached, absent-none, none-absent, one-or-none}
+use Rattle.tlv.proofs.FaultLaws.{lt-eqb}
+use Rattle.tlv.proofs.Reached.{reached-whole, whole-reached, whole-breaks, breaks-is, breaks-whole, first-is, none-absent, one-or-none}
 use Rattle.message.specs.Fields.{typeOf, versionOf, lengthOf, fixedSize, tailOf, messageOf}
-use Rattle.message.specs.Reading.{badStamp, checkOf, by, readOf}
+use Rattle.message.specs.Reading.{badStamp, faultCheck, checkOf, by, readOf}
 use Rattle.message.specs.Parts.{firstOfType, lookupOf, suffixAnswer, suffixOf, linkAnswer, linkOf, announcedOf}
 use Rattle.message.specs.When.{HasHeader, IsTwo, IsListed, IsSized, IsLent, IsStamped, IsWhole, When, few, version, unlisted, below, beyond, stamp, tlv, wrbad, sound, TakesWhen, unread, other, taken}
 use Rattle.message.specs.Answers.{readCode, tlvCode, suffixCode, linkCode, announcedCode}
@@ -36,34 +38,10 @@ use Rattle.message.specs.declared.parts.SuffixRead.the-variants as flags
 use Rattle.message.specs.declared.parts.LinkRead.the-variants as link
 use Rattle.message.specs.declared.announce.Announced.the-variants as announced
 
--- every refusal has a number above 0
-pub counted : (x : Refusal) → 0 < numberOf x
-counted Short = omega arith
-counted Version = omega arith
-counted «Type» = omega arith
-counted Length = omega arith
-counted Stamp = omega arith
-counted Tlv = omega arith
-counted WrBad = omega arith
-counted Port = omega arith
-counted Domain = omega arith
-counted Own = omega arith
-counted Backward = omega arith
-counted Stale = omega arith
-counted Full = omega arith
-counted Range = omega arith
-counted Unranked = omega arith
-counted Room = omega arith
-counted Many = omega arith
-counted Field = omega arith
-
 -- nothing is refused where the number is 0
 pub none-refused : (o : Outcome) → codeOf o ≡ 0 → o ≡ Done
 none-refused Done e = refl
-none-refused (Refused x) e = absurd (omega (arith, counted x, e))
-
-no-truth : _≡_ {A = Bool} false true → ⊥
-no-truth e = let z : _≡_ {A = ℕ} 0 1 = cc in omega arith
+none-refused (Refused x) e = absurd (omega (arith, answered x, e))
 
 module _ (magic : ℕ) (s : List ℕ) where
   -- the answer, from what the octets are like
@@ -84,7 +62,7 @@ module _ (magic : ℕ) (s : List ℕ) where
       ≡ refuse (ltb (lengthOf s) (fixedSize (typeOf s))) (Refused Length)
       (refuse (ltb (length s) (lengthOf s)) (Refused Short)
       (refuse (badStamp (typeOf s) s) (Refused Stamp)
-      (tailCheck magic (tailOf s))))
+      (faultCheck (fixedSize (typeOf s)) (faultOf magic (tailOf s)))))
   unfolding checkOf refuse
   listed p =
       rw (le-ltb (length s) 34 (p .0 .0), eq-eqb (versionOf s) 2 (p .0 .1), ne-eqb (fixedSize (typeOf s)) 0 (p .1))
@@ -99,7 +77,7 @@ module _ (magic : ℕ) (s : List ℕ) where
       listed (p .0) ∙ rw (le-ltb (lengthOf s) (fixedSize (typeOf s)) (p .1), lt-ltb (length s) (lengthOf s) h)
 
   -- what is left once the octets are there
-  lent : IsLent s → checkOf magic s ≡ refuse (badStamp (typeOf s) s) (Refused Stamp) (tailCheck magic (tailOf s))
+  lent : IsLent s → checkOf magic s ≡ refuse (badStamp (typeOf s) s) (Refused Stamp) (faultCheck (fixedSize (typeOf s)) (faultOf magic (tailOf s)))
   unfolding refuse
   lent p =
       listed (p .0 .0)
@@ -109,29 +87,24 @@ module _ (magic : ℕ) (s : List ℕ) where
   unfolding refuse
   bad-stamped p e = lent p ∙ rw e
 
-  pub stamped : IsStamped s → checkOf magic s ≡ tailCheck magic (tailOf s)
+  pub stamped : IsStamped s → checkOf magic s ≡ faultCheck (fixedSize (typeOf s)) (faultOf magic (tailOf s))
   unfolding refuse
   stamped p = lent (p .0) ∙ rw (p .1)
 
-  not-whole : IsStamped s → whole (tailOf s) ≡ false → checkOf magic s ≡ Refused Tlv
-  unfolding tailCheck refuse
-  not-whole p e = stamped p ∙ rw e
+  -- the tail breaks off
+  not-whole : {p : ℕ} → IsStamped s → BreaksAt (tailOf s) p → checkOf magic s ≡ Refused (Tlv (fixedSize (typeOf s) + p))
+  unfolding faultOf
+  not-whole p v = stamped p ∙ rw (breaks-whole (tailOf s) v, breaks-is (tailOf s) v)
 
-  whole-is : (b : Bool) → whole (tailOf s) ≡ b → (whole (tailOf s) ≡ true → ⊥) → whole (tailOf s) ≡ false
-  whole-is true e n = absurd (n e)
-  whole-is false e n = e
-
-  misfitting : IsWhole s → (misfit magic (tailOf s) 0 ≡ length (tailOf s) → ⊥) → checkOf magic s ≡ Refused WrBad
-  unfolding tailCheck refuse
-  misfitting p n =
-      stamped (p .0) ∙ rw (reached-whole (tailOf s) (p .1), ne-eqb (misfit magic (tailOf s) 0) (length (tailOf s)) n)
-
-  -- a TLV that does not fit is one that the search finds
-  misfit-found : {p : ℕ} → TlvAt (tailOf s) p → misfitAt magic (tailOf s) p ≡ true → misfit magic (tailOf s) 0 ≡ length (tailOf s) → ⊥
-  misfit-found {p} v f e = no-truth (sym (absent-none (misfitAt magic (tailOf s)) (tailOf s) e p v) ∙ f)
+  -- a known message has a wrong data size
+  misfitting : {p : ℕ} → IsWhole s → FirstTlv (misfitAt magic (tailOf s)) (tailOf s) p → checkOf magic s ≡ Refused (WrBad (fixedSize (typeOf s) + p))
+  unfolding faultOf
+  misfitting {p} w v =
+      stamped (w .0)
+      ∙ rw (reached-whole (tailOf s) (w .1), first-is (misfitAt magic (tailOf s)) (tailOf s) v, lt-eqb p (length (tailOf s)) (v .at .inside))
 
   fitting : IsWhole s → misfit magic (tailOf s) 0 ≡ length (tailOf s) → checkOf magic s ≡ Done
-  unfolding tailCheck refuse
+  unfolding faultOf
   fitting p e =
       stamped (p .0) ∙ rw (reached-whole (tailOf s) (p .1), eq-eqb (misfit magic (tailOf s) 0) (length (tailOf s)) e)
 
@@ -143,7 +116,7 @@ module _ (magic : ℕ) (s : List ℕ) where
   at-tail p =
       ⊎-elim
       (λ (f : FirstTlv (misfitAt magic (tailOf s)) (tailOf s) (misfit magic (tailOf s) 0)).
-      give (misfitting p (misfit-found (f .at) (f .passes))) (wrbad p (f .at) (f .passes)))
+      give (misfitting p f) (wrbad p f))
       (λ (n : NoTlv (misfitAt magic (tailOf s)) (tailOf s)).
       give (fitting p (none-absent (misfitAt magic (tailOf s)) (tailOf s) n)) (sound p n))
       (one-or-none (misfitAt magic (tailOf s)) (tailOf s))
@@ -153,7 +126,7 @@ module _ (magic : ℕ) (s : List ℕ) where
       ⊎-elim
       (λ (t : whole (tailOf s) ≡ true). at-tail (p, whole-reached (tailOf s) t))
       (λ (t : whole (tailOf s) ≡ false).
-      give (not-whole p t) (tlv p (λ r. no-truth (sym t ∙ reached-whole (tailOf s) r))))
+      let v = whole-breaks (tailOf s) t in give (not-whole p v) (tlv p v))
       (decided (whole (tailOf s)))
 
   at-lent : IsLent s → When magic s (codeOf (checkOf magic s))
@@ -212,14 +185,13 @@ module _ (magic : ℕ) (s : List ℕ) where
   when-told (below p h) = ap codeOf (not-sized p h)
   when-told (beyond p h) = ap codeOf (not-lent p h)
   when-told (stamp p e) = ap codeOf (bad-stamped p e)
-  when-told (tlv p n) =
-      ap codeOf (not-whole p (whole-is (whole (tailOf s)) refl (λ e. n (whole-reached (tailOf s) e))))
-  when-told (wrbad p v f) = ap codeOf (misfitting p (misfit-found v f))
+  when-told (tlv p v) = ap codeOf (not-whole p v)
+  when-told (wrbad p v) = ap codeOf (misfitting p v)
   when-told (sound p n) = ap codeOf (fitting p (none-absent (misfitAt magic (tailOf s)) (tailOf s) n))
 
 -- ---- the calls that read: an answer by the checks has the checks' number
-module _ {A : Type 0} (code : A → ℕ) (refused : Refusal → A) (number : (x : Refusal) → code (refused x) ≡ numberOf x) where
-  by-code : (o : Outcome) (a : A) → code a ≡ 0 → code (by o refused a) ≡ codeOf o
+module _ {A : Type 0} (code : A → ℕ) (refused : Refusal → A) (number : (x : Refusal) → code (refused x) ≡ answerOf x) where
+  pub by-code : (o : Outcome) (a : A) → code a ≡ 0 → code (by o refused a) ≡ codeOf o
   by-code Done a z = z
   by-code (Refused x) a z = number x
 
@@ -251,7 +223,7 @@ module _ {A : Type 0} (code : A → ℕ) (refused : Refusal → A) (number : (x 
     -- which of the three it is
     line : (o : Outcome) → checkOf magic s ≡ o → (b : Bool) → eqb (typeOf s) kind ≡ b → (n : ℕ) × TakesWhen magic kind s n
     line (Refused x) e b t =
-        (numberOf x, unread (subst (λ (o : Outcome). When magic s (codeOf o)) e (told magic s)) (counted x))
+        (answerOf x, unread (subst (λ (o : Outcome). When magic s (codeOf o)) e (told magic s)) (answered x))
     line Done e true t =
         (0, taken (subst (λ (o : Outcome). When magic s (codeOf o)) e (told magic s)) (eqb-true (typeOf s) kind t))
     line Done e false t =

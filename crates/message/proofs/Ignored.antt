@@ -18,11 +18,13 @@ use Rattle.refusal.specs.declared.Refusal.the-variants.{Short, Version, «Type�
 use Rattle.refusal.specs.declared.Outcome.{Outcome}
 use Rattle.refusal.specs.declared.Outcome.the-variants.{Done, Refused}
 use Rattle.octets.specs.Be.{be}
-use Rattle.tlv.specs.Faults.{tailCheck}
+use Rattle.tlv.specs.Faults.{faultOf}
 use Rattle.tlv.specs.Wr.{suffixIn, wrFlagsOf, linkIn}
 use Rattle.tlv.specs.Walk.{dataAt}
 use Rattle.message.specs.Fields.{typeOf, versionOf, lengthOf, fixedSize, identityAt, stampOf, headerOf, announceOf, bodyOf, messageOf, tailOf}
-use Rattle.message.specs.Reading.{badStamp, checkOf, by, readOf}
+use Rattle.message.specs.Reading.{badStamp, headed, faultCheck, checkOf, by, readOf}
+use Rattle.message.specs.Tlvs.{standing, nextIn}
+use Rattle.message.specs.declared.tlvs.Walked.the-variants as walked
 use Rattle.message.specs.Parts.{firstOfType, tailIn, dataIn, lookupOf, suffixAnswer, suffixOf, announcedOf, linkAnswer, linkOf}
 use Rattle.message.specs.Ignored.{headerIgnored, restIgnored, isIgnored, Reaches, Alike}
 use Rattle.message.specs.declared.fields.Body.{Body}
@@ -333,36 +335,41 @@ module _ (a b : List ℕ) (s : Alike a b) where
       let h = ltb-false (length a) (lengthOf a) e in
       (h, ⊎-elim (λ (q : length a ≡ length b). rw (← q) h) (λ (r : Reaches a (lengthOf a) × Reaches b (lengthOf a)). r .1 .message) (s .lent))
 
-  module _ (magic : ℕ) where
-    -- those behind the header's
+  -- THE CHECKS BEFORE THE TAIL'S GIVE THE SAME, and what comes after them does where tails that are lent are the same
+  module _ {A : Type 0} (refused : Refusal → A) {y z : A}
+      (h : (fixedSize (typeOf a) ≡ 0 → ⊥) → tailOf a ≡ tailOf b → y ≡ z) where
     rest-same : (fixedSize (typeOf a) ≡ 0 → ⊥) → fixedSize (typeOf a) ≤ lengthOf a
-        → refuse (ltb (length a) (lengthOf a)) (Refused Short) (refuse (badStamp (typeOf a) a) (Refused Stamp) (tailCheck magic (tailOf a)))
-        ≡ refuse (ltb (length b) (lengthOf b)) (Refused Short) (refuse (badStamp (typeOf b) b) (Refused Stamp) (tailCheck magic (tailOf b)))
+        → refuse (ltb (length a) (lengthOf a)) (refused Short) (refuse (badStamp (typeOf a) a) (refused Stamp) y)
+        ≡ refuse (ltb (length b) (lengthOf b)) (refused Short) (refuse (badStamp (typeOf b) b) (refused Stamp) z)
     rest-same listed least =
-        under (ltb (length a) (lengthOf a)) (Refused Short)
+        under (ltb (length a) (lengthOf a)) (refused Short)
         (λ e.
         let l = both-lent e in
-        let t = tail-same least listed (l .0) (l .1) in
+        let k = h listed (tail-same least listed (l .0) (l .1)) in
         let q = bad-stamp-same least listed in
-        λ i. refuse (q i) (Refused Stamp) (tailCheck magic (t i)))
-        ∙ (λ i. refuse (beyond-same i) (Refused Short) (refuse (badStamp (typeOf b) b) (Refused Stamp) (tailCheck magic (tailOf b))))
+        λ i. refuse (q i) (refused Stamp) (k i))
+        ∙ (λ i. refuse (beyond-same i) (refused Short) (refuse (badStamp (typeOf b) b) (refused Stamp) z))
 
+    pub headed-same : headed refused y a ≡ headed refused z b
+    headed-same =
+        under (ltb (length a) 34) (refused Short)
+        (λ e1. under (not (eqb (versionOf a) 2)) (refused Version)
+        (λ e2. under (eqb (fixedSize (typeOf a)) 0) (refused «Type»)
+        (λ e3. under (ltb (lengthOf a) (fixedSize (typeOf a))) (refused Length)
+        (λ e4. rest-same (eqb-false _ _ e3) (ltb-false _ _ e4)))))
+        ∙ (λ i. refuse (short-same i) (refused Short)
+        (refuse (not (eqb (s .version i) 2)) (refused Version)
+        (refuse (eqb (fixedSize (type-same i)) 0) (refused «Type»)
+        (refuse (ltb (length-same i) (fixedSize (type-same i))) (refused Length)
+        (refuse (ltb (length b) (lengthOf b)) (refused Short)
+        (refuse (badStamp (typeOf b) b) (refused Stamp)
+        z))))))
+
+  module _ (magic : ℕ) where
     -- THE READING CHECKS GIVE THE SAME
     pub check-same : checkOf magic a ≡ checkOf magic b
     unfolding checkOf
-    check-same =
-        under (ltb (length a) 34) (Refused Short)
-        (λ e1. under (not (eqb (versionOf a) 2)) (Refused Version)
-        (λ e2. under (eqb (fixedSize (typeOf a)) 0) (Refused «Type»)
-        (λ e3. under (ltb (lengthOf a) (fixedSize (typeOf a))) (Refused Length)
-        (λ e4. rest-same (eqb-false _ _ e3) (ltb-false _ _ e4)))))
-        ∙ (λ i. refuse (short-same i) (Refused Short)
-        (refuse (not (eqb (s .version i) 2)) (Refused Version)
-        (refuse (eqb (fixedSize (type-same i)) 0) (Refused «Type»)
-        (refuse (ltb (length-same i) (fixedSize (type-same i))) (Refused Length)
-        (refuse (ltb (length b) (lengthOf b)) (Refused Short)
-        (refuse (badStamp (typeOf b) b) (Refused Stamp)
-        (tailCheck magic (tailOf b))))))))
+    check-same = headed-same Refused (λ listed t. λ i. faultCheck (fixedSize (type-same i)) (faultOf magic (t i)))
 
     -- what an accepted message says
     pub accepted-tail : checkOf magic a ≡ Done → tailOf a ≡ tailOf b
@@ -409,6 +416,14 @@ module _ (a b : List ℕ) (s : Alike a b) where
         (λ e.
         let t = accepted-tail e in
         λ i. pick (ltb (firstOfType kind (t i)) (length (t i))) (lookup.Found (fixedSize (type-same i) + firstOfType kind (t i) + 4)) lookup.Absent)
+
+    -- going through the TLVs,
+    pub walk-same : (from : ℕ) → nextIn magic from a ≡ nextIn magic from b
+    unfolding nextIn
+    walk-same from =
+        λ i. pick (eqb from 0)
+        (by-same walked.Refused (λ e. let t = accepted-tail e in λ j. standing magic (fixedSize (type-same j)) (t j) 0) i)
+        (headed-same walked.Refused (λ listed t. λ j. standing magic (fixedSize (type-same j)) (t j) (from - fixedSize (type-same j))) i)
 
     -- the suffix,
     pub suffix-same : suffixOf magic a ≡ suffixOf magic b

@@ -1,12 +1,12 @@
 -- What an accepted message says of the octets lent, and the bounds of the fixed sizes.
-use Prim.Native.Nat.{ℕ, _-_, _≤_}
+use Prim.Native.Nat.{ℕ, _+_, _-_, _<_, _≤_}
 use mathlib.Core.Path.{_≡_, refl, sym, _∙_}
 use mathlib.Core.List.{List, []}
 use mathlib.Core.Bool.{Bool, true, false}
 use native.Mathlib.Omega.{arith}
 use borrow.Author.Tests.{ltb-false, eqb-true, eqb-false, not-false}
 use lib.Dec.{eqb}
-use lib.ListN.{length, length-take, length-drop}
+use lib.ListN.{length, take, drop, length-take, length-drop}
 use Rattle.refusal.specs.Choice.{pick, refuse}
 use Rattle.refusal.proofs.Choice.{passed}
 pub use Rattle.refusal.proofs.Choice.{no-refusal}
@@ -14,9 +14,12 @@ use Rattle.refusal.specs.declared.Refusal.{Refusal}
 use Rattle.refusal.specs.declared.Outcome.{Outcome}
 use Rattle.refusal.specs.declared.Outcome.the-variants.{Done, Refused}
 use Rattle.tlv.specs.Walk.{walkBy, walk}
-use Rattle.tlv.specs.Faults.{tailCheck}
+use Rattle.tlv.specs.Faults.{faultOf, isFault}
+use Rattle.tlv.specs.declared.walk.Fault.{Fault}
+use Rattle.tlv.specs.declared.walk.Fault.the-variants.{Sound, Broken, Misfit}
+use Rattle.tlv.proofs.FaultLaws.{break-inside, misfit-inside}
 use Rattle.message.specs.Fields.{typeOf, versionOf, lengthOf, fixedSize, tailOf}
-use Rattle.message.specs.Reading.{badStamp, checkOf}
+use Rattle.message.specs.Reading.{badStamp, IsPlaced, faultCheck, checkOf}
 use Rattle.message.specs.Parts.{Bounded}
 
 -- `fixedSize`, by its six tests
@@ -53,9 +56,35 @@ unfolding fixedSize
 size-most kind = most-by (eqb kind 0x0) (eqb kind 0x1) (eqb kind 0x8) (eqb kind 0x9) (eqb kind 0xB) (eqb kind 0xC)
 
 -- nothing is wrong with no tail
-pub no-tail : (magic : ℕ) → tailCheck magic [] ≡ Done
-unfolding tailCheck refuse walk walkBy
+pub no-tail : (magic : ℕ) → faultOf magic [] ≡ Sound
+unfolding faultOf walk walkBy
 no-tail magic = refl
+
+-- a tail is refused exactly where it has a fault
+pub no-fault : (size : ℕ) (x : Fault) → faultCheck size x ≡ Done → x ≡ Sound
+no-fault size Sound e = refl
+no-fault size (Broken p) e = absurd (no-refusal _ e)
+no-fault size (Misfit p) e = absurd (no-refusal _ e)
+
+-- a fault has its place in the message
+pub fault-placed : (magic size : ℕ) (t : List ℕ) → size + length t < 65536 → (x : Fault) → x ≡ faultOf magic t → IsPlaced size x
+fault-placed magic size t h Sound e = tt
+fault-placed magic size t h (Broken p) e = let l = break-inside magic t (sym e) in omega arith
+fault-placed magic size t h (Misfit p) e = let l = misfit-inside magic t (sym e) in omega arith
+
+-- what stands between two lengths ends at the second
+pub part-short : (size n : ℕ) (s : List ℕ) → size ≤ n → n < 65536 → size + length (take (n - size) (drop size s)) < 65536
+part-short size n s h m = let l : length (take (n - size) (drop size s)) ≤ n - size = simp length-take (omega arith) in omega arith
+
+-- a tail that is refused has a fault
+pub told-fault : (size : ℕ) (x : Fault) {y : Refusal} → faultCheck size x ≡ Refused y → isFault x ≡ true
+told-fault size Sound e = absurd (no-refusal _ (sym e))
+told-fault size (Broken p) e = refl
+told-fault size (Misfit p) e = refl
+
+-- and one that is not has none
+pub told-sound : (size : ℕ) (x : Fault) → faultCheck size x ≡ Done → isFault x ≡ false
+told-sound size x e = rw (no-fault size x e)
 
 -- all the checks are passed
 pub record Accepted (magic : ℕ) (s : List ℕ) : Type 0 where
@@ -65,7 +94,7 @@ pub record Accepted (magic : ℕ) (s : List ℕ) : Type 0 where
   pub least : fixedSize (typeOf s) ≤ lengthOf s
   pub lent : lengthOf s ≤ length s
   pub stamp : badStamp (typeOf s) s ≡ false
-  pub tail : tailCheck magic (tailOf s) ≡ Done
+  pub tail : faultOf magic (tailOf s) ≡ Sound
 
 pub accepted : (magic : ℕ) (s : List ℕ) → checkOf magic s ≡ Done → Accepted magic s
 unfolding checkOf
@@ -83,7 +112,7 @@ accepted magic s e =
       least = ltb-false _ _ (p4 .0);
       lent = ltb-false _ _ (p5 .0);
       stamp = p6 .0;
-      tail = p6 .1;
+      tail = no-fault _ _ (p6 .1);
     }
 
 -- so the fixed part and the tail are there

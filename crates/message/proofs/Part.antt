@@ -8,9 +8,9 @@ use native.Mathlib.Omega.{arith}
 use borrow.Author.Tests.{lt-ltb, le-ltb, ltb-true, ltb-false, ne-eqb, eqb-true, eqb-false}
 use lib.Dec.{ltb}
 use lib.ListN.{length, take, drop, length-take, length-drop}
-use lib.Seq.{take-take, drop-drop, getD-take}
+use lib.Seq.{take-take, drop-drop}
 use Rattle.octets.specs.Be.{be}
-use Rattle.octets.proofs.Laws.{be-drop}
+use Rattle.octets.proofs.Laws.{be-drop, be-take}
 use Rattle.refusal.specs.Choice.{pick}
 use Rattle.refusal.specs.declared.Refusal.{Refusal}
 use Rattle.refusal.specs.declared.Outcome.{Outcome}
@@ -31,19 +31,14 @@ use Rattle.message.proofs.Laws.{bounded, tail-length}
 use Rattle.message.proofs.Exactly.{none-refused, when-told}
 
 -- a part of what was taken is the same part of the whole
-inside : (a l n : ℕ) (s : List ℕ) → a + l ≤ n → take l (drop a (take n s)) ≡ take l (drop a s)
+pub inside : (a l n : ℕ) (s : List ℕ) → a + l ≤ n → take l (drop a (take n s)) ≡ take l (drop a s)
 inside zero l n s h = take-take l n s (omega arith)
 inside (suc a) l zero s h = absurd (omega arith)
 inside (suc a) l (suc n) [] h = refl
 inside (suc a) l (suc n) (x ∷ s) h = inside a l n s (omega arith)
 
-be-take : (n k : ℕ) (s : List ℕ) (at : ℕ) → at + n ≤ k → be n (take k s) at ≡ be n s at
-unfolding be
-be-take zero k s at h = refl
-be-take (suc n) k s at h = rw (be-take n k s at (omega arith), getD-take k s (at + n) 0 (omega arith))
-
 -- a number of the tail is that number of the message
-tail-be : (n : ℕ) (s : List ℕ) (p : ℕ) → p + n ≤ lengthOf s - fixedSize (typeOf s) → be n (tailOf s) p ≡ be n s (fixedSize (typeOf s) + p)
+pub tail-be : (n : ℕ) (s : List ℕ) (p : ℕ) → p + n ≤ lengthOf s - fixedSize (typeOf s) → be n (tailOf s) p ≡ be n s (fixedSize (typeOf s) + p)
 tail-be n s p h = be-take n (lengthOf s - fixedSize (typeOf s)) (drop (fixedSize (typeOf s)) s) p h ∙ be-drop n (fixedSize (typeOf s)) s p
 
 -- an answer of `lookupOf` that is no refusal was made of an accepted message

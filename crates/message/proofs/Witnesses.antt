@@ -1,22 +1,26 @@
 -- Inputs at which the contracts demand different answers: a reader that refuses everything, accepts everything or
 -- answers one constant does not meet them. Each is computed from the definitions.
-use Prim.Native.Nat.{ℕ, zero, suc, _+_, _-_, _/_, _%_}
+use Prim.Native.Nat.{ℕ, zero, suc, _+_, _-_, _*_, _/_, _%_}
 use mathlib.Core.Path.{_≡_, refl}
-use mathlib.Core.List.{List, [], _∷_, map}
+use mathlib.Core.List.{List, [], _∷_, _++_, map}
 use lib.IntN.{negsuc}
 use lib.ListN.{drop}
 use Rattle.octets.specs.Be.{be}
 use Rattle.refusal.specs.Choice.{refuse}
 use Rattle.refusal.specs.Refusal.{numberOf}
+use Rattle.refusal.specs.declared.Refusal.the-variants.{Tlv, WrBad}
 use Rattle.tlv.specs.Walk.{nextOf, walkBy, walk}
 use Rattle.tlv.specs.Form.{HasForm, dataOctets, numbered, misfitAt, suffixAt, linkAt}
-use Rattle.tlv.specs.Faults.{tailCheck}
+use Rattle.tlv.specs.Faults.{faultOf}
 use Rattle.tlv.specs.Wr.{suffixIn, linkMessageAt, linkIn}
 use Rattle.tlv.specs.declared.wr.LinkMessage.the-variants.{SlavePresent, Lock, Locked, Calibrate, Calibrated, ModeOn}
 use Rattle.message.specs.Fields.{fixedSize, identityAt, stampOf, headerOf, announceOf, bodyOf}
 use Rattle.message.specs.Reading.{checkOf, readOf}
 use Rattle.message.specs.Parts.{tailIn, dataIn, lookupOf, suffixOf, linkOf}
-use Rattle.message.specs.Answers.{readCode}
+use Rattle.message.specs.Answers.{readCode, walkedCode}
+use Rattle.message.specs.Tlvs.{tlvsOf, standing, nextIn, dataFrom}
+use Rattle.message.specs.declared.tlvs.Walked.{Walked}
+use Rattle.message.specs.declared.tlvs.Walked.the-variants as walked
 use Rattle.message.specs.declared.fields.Timestamp.{Timestamp}
 use Rattle.message.specs.declared.fields.Header.{Header}
 use Rattle.message.specs.declared.fields.Body.{Body}
@@ -77,7 +81,7 @@ pub reads : map (λ (s : List ℕ). answer (readOf 0xABCD s)) (
     ∷ plain 0x0 2 58 40 wrongTlv
     ∷ [])
     ≡ 0x0 ∷ 0x1 ∷ 0x8 ∷ 0x9 ∷ 0xB ∷ 0xC ∷ 101 ∷ 101 ∷ 102 ∷ 103 ∷ 104 ∷ 105 ∷ 106 ∷ 107 ∷ []
-unfolding readOf checkOf refuse fixedSize be tailCheck walk walkBy nextOf misfitAt numbered HasForm dataOctets bodyOf
+unfolding readOf checkOf refuse fixedSize be faultOf walk walkBy nextOf misfitAt numbered HasForm dataOctets bodyOf
 reads = refl
 
 -- ---- fields
@@ -147,7 +151,7 @@ pub fields : map (readOf 0xABCD) (
     }))
     ∷ fullRead (body.Signaling (record { clock = 0x2122232425262728; port = 0x292A }))
     ∷ []
-unfolding readOf checkOf refuse fixedSize be tailCheck walk walkBy bodyOf headerOf stampOf identityAt announceOf
+unfolding readOf checkOf refuse fixedSize be faultOf walk walkBy bodyOf headerOf stampOf identityAt announceOf
 fields = refl
 
 -- the fixed sizes of types 0x0 to 0xF, 0 where the type is not listed
@@ -162,7 +166,7 @@ sized kind size lent = readCode (readOf 0xABCD (plain kind 2 size (lent - 4) [])
 
 pub lengths : map (λ (kind : ℕ). sized kind (fixedSize kind - 1) 64 ∷ sized kind (fixedSize kind) (fixedSize kind) ∷ sized kind (fixedSize kind) (fixedSize kind - 1) ∷ []) (0x0 ∷ 0x1 ∷ 0x8 ∷ 0x9 ∷ 0xB ∷ 0xC ∷ [])
     ≡ (4 ∷ 0 ∷ 1 ∷ []) ∷ (4 ∷ 0 ∷ 1 ∷ []) ∷ (4 ∷ 0 ∷ 1 ∷ []) ∷ (4 ∷ 0 ∷ 1 ∷ []) ∷ (4 ∷ 0 ∷ 1 ∷ []) ∷ (4 ∷ 0 ∷ 1 ∷ []) ∷ []
-unfolding readOf checkOf refuse fixedSize be tailCheck walk walkBy bodyOf
+unfolding readOf checkOf refuse fixedSize be faultOf walk walkBy bodyOf
 lengths = refl
 
 -- ---- White Rabbit's messages
@@ -195,43 +199,110 @@ pub carries : map (linkOf 0xABCD) (
     ∷ link.Message ModeOn
     ∷ link.Absent
     ∷ []
-unfolding linkOf linkIn linkAt linkMessageAt checkOf refuse fixedSize be tailCheck walk walkBy nextOf misfitAt numbered HasForm dataOctets
+unfolding linkOf linkIn linkAt linkMessageAt checkOf refuse fixedSize be faultOf walk walkBy nextOf misfitAt numbered HasForm dataOctets
 carries = refl
+
+-- 7, at the place of the TLV
+abbrev bad : ℕ
+bad = 7 + 256 * 44
 
 -- two octets more are 7 for the seven, and nothing for a number that is not listed
 pub misfits : map (λ (number : ℕ). map (λ (n : ℕ). readCode (readOf 0xABCD (signaling number n))) (0 ∷ 2 ∷ 6 ∷ 8 ∷ 16 ∷ 18 ∷ [])) (0x0FFF ∷ 0x1000 ∷ 0x1001 ∷ 0x1002 ∷ 0x1003 ∷ 0x1004 ∷ 0x1005 ∷ 0x1006 ∷ 0x2000 ∷ 0x2001 ∷ [])
     ≡ (0 ∷ 0 ∷ 0 ∷ 0 ∷ 0 ∷ 0 ∷ [])
-    ∷ (0 ∷ 7 ∷ 7 ∷ 7 ∷ 7 ∷ 7 ∷ [])
-    ∷ (0 ∷ 7 ∷ 7 ∷ 7 ∷ 7 ∷ 7 ∷ [])
-    ∷ (0 ∷ 7 ∷ 7 ∷ 7 ∷ 7 ∷ 7 ∷ [])
-    ∷ (7 ∷ 7 ∷ 0 ∷ 7 ∷ 7 ∷ 7 ∷ [])
-    ∷ (7 ∷ 7 ∷ 7 ∷ 7 ∷ 0 ∷ 7 ∷ [])
-    ∷ (0 ∷ 7 ∷ 7 ∷ 7 ∷ 7 ∷ 7 ∷ [])
+    ∷ (0 ∷ bad ∷ bad ∷ bad ∷ bad ∷ bad ∷ [])
+    ∷ (0 ∷ bad ∷ bad ∷ bad ∷ bad ∷ bad ∷ [])
+    ∷ (0 ∷ bad ∷ bad ∷ bad ∷ bad ∷ bad ∷ [])
+    ∷ (bad ∷ bad ∷ 0 ∷ bad ∷ bad ∷ bad ∷ [])
+    ∷ (bad ∷ bad ∷ bad ∷ bad ∷ 0 ∷ bad ∷ [])
+    ∷ (0 ∷ bad ∷ bad ∷ bad ∷ bad ∷ bad ∷ [])
     ∷ (0 ∷ 0 ∷ 0 ∷ 0 ∷ 0 ∷ 0 ∷ [])
-    ∷ (7 ∷ 0 ∷ 7 ∷ 7 ∷ 7 ∷ 7 ∷ [])
+    ∷ (bad ∷ 0 ∷ bad ∷ bad ∷ bad ∷ bad ∷ [])
     ∷ (0 ∷ 0 ∷ 0 ∷ 0 ∷ 0 ∷ 0 ∷ [])
     ∷ []
-unfolding readOf checkOf refuse fixedSize be tailCheck walk walkBy nextOf misfitAt numbered HasForm dataOctets
+unfolding readOf checkOf refuse fixedSize be faultOf walk walkBy nextOf misfitAt numbered HasForm dataOctets
 misfits = refl
 
 -- a TLV looked up: its data, where they begin, and that there is none
 pub looks-up : dataIn 0xABCD 3 (plain 0xB 2 78 60 suffixTlv) ≡ drop 4 suffixTlv
-unfolding dataIn tailIn checkOf refuse fixedSize be tailCheck walk walkBy nextOf misfitAt numbered HasForm dataOctets
+unfolding dataIn tailIn checkOf refuse fixedSize be faultOf walk walkBy nextOf misfitAt numbered HasForm dataOctets
 looks-up = refl
 
 pub says-where : lookupOf 0xABCD 3 (plain 0xB 2 78 60 suffixTlv) ≡ lookup.Found 68
-unfolding lookupOf checkOf refuse fixedSize be tailCheck walk walkBy nextOf misfitAt numbered HasForm dataOctets
+unfolding lookupOf checkOf refuse fixedSize be faultOf walk walkBy nextOf misfitAt numbered HasForm dataOctets
 says-where = refl
 
 pub says-absent : lookupOf 0xABCD 8 (plain 0xB 2 78 60 suffixTlv) ≡ lookup.Absent
-unfolding lookupOf checkOf refuse fixedSize be tailCheck walk walkBy nextOf misfitAt numbered HasForm dataOctets
+unfolding lookupOf checkOf refuse fixedSize be faultOf walk walkBy nextOf misfitAt numbered HasForm dataOctets
 says-absent = refl
 
 -- wrFlags without its reserved bits; none without the suffix, and none under another magic
 pub has-suffix : suffixOf 0xABCD (plain 0xB 2 78 60 suffixTlv) ≡ flags.Flags 7
-unfolding suffixOf suffixIn suffixAt checkOf refuse fixedSize be tailCheck walk walkBy nextOf misfitAt numbered HasForm dataOctets
+unfolding suffixOf suffixIn suffixAt checkOf refuse fixedSize be faultOf walk walkBy nextOf misfitAt numbered HasForm dataOctets
 has-suffix = refl
 
 pub has-no-suffix : suffixOf 0xDEAD (plain 0xB 2 78 60 suffixTlv) ≡ flags.Absent
-unfolding suffixOf suffixIn suffixAt checkOf refuse fixedSize be tailCheck walk walkBy nextOf misfitAt numbered HasForm dataOctets
+unfolding suffixOf suffixIn suffixAt checkOf refuse fixedSize be faultOf walk walkBy nextOf misfitAt numbered HasForm dataOctets
 has-no-suffix = refl
+
+-- ---- places
+-- a TLV of six octets, of a type that nobody knows
+abbrev six : List ℕ
+six = 0x12 ∷ 0x34 ∷ 0x00 ∷ 0x02 ∷ 0x56 ∷ 0x78 ∷ []
+
+-- 6 and 7 with their places, from octet 0 on: a leftover of one, two, three octets, an odd length, one that runs past the end; a wrong size, the first of
+-- two; a break behind a wrong size; and the same faults behind the fixed parts of other types
+pub places : map (λ (s : List ℕ). readCode (readOf 0xABCD s)) (
+    plain 0x0 2 51 40 (six ++ (0x00 ∷ []))
+    ∷ plain 0x1 2 52 40 (six ++ (0x00 ∷ 0x08 ∷ []))
+    ∷ plain 0x8 2 53 40 (six ++ (0x00 ∷ 0x08 ∷ 0x00 ∷ []))
+    ∷ plain 0x0 2 56 40 (six ++ (0x00 ∷ 0x08 ∷ 0x00 ∷ 0x01 ∷ 0x00 ∷ 0x00 ∷ []))
+    ∷ plain 0x0 2 56 40 (six ++ (0x00 ∷ 0x08 ∷ 0x00 ∷ 0x04 ∷ 0x00 ∷ 0x00 ∷ []))
+    ∷ plain 0x0 2 64 40 (six ++ wrongTlv)
+    ∷ plain 0x0 2 78 40 (six ++ (wrongTlv ++ wrongTlv))
+    ∷ plain 0x0 2 59 40 (wrongTlv ++ (0x00 ∷ []))
+    ∷ plain 0x9 2 61 50 (six ++ (0x00 ∷ []))
+    ∷ plain 0xB 2 84 60 (six ++ wrongTlv)
+    ∷ plain 0xC 2 51 40 (six ++ (0x00 ∷ []))
+    ∷ [])
+    ≡ (6 + 256 * 50) ∷ (6 + 256 * 50) ∷ (6 + 256 * 50) ∷ (6 + 256 * 50) ∷ (6 + 256 * 50) ∷ (7 + 256 * 50) ∷ (7 + 256 * 50) ∷ (6 + 256 * 58) ∷ (6 + 256 * 60) ∷ (7 + 256 * 70) ∷ (6 + 256 * 50) ∷ []
+unfolding readOf checkOf refuse fixedSize be faultOf walk walkBy nextOf misfitAt numbered HasForm dataOctets
+places = refl
+
+-- an Announce with three TLVs, of 6, 14 and 4 octets
+abbrev three : List ℕ
+three = plain 0xB 2 88 60 (six ++ (suffixTlv ++ (0x9A ∷ 0xBC ∷ 0x00 ∷ 0x00 ∷ [])))
+
+-- their places, types and lengths
+pub three-tlvs : tlvsOf three
+    ≡ record { place = 64; kind = 0x1234; length = 2 } ∷ record { place = 70; kind = 3; length = 10 } ∷ record { place = 84; kind = 0x9ABC; length = 0 } ∷ []
+unfolding fixedSize be walk walkBy nextOf
+three-tlvs = refl
+
+abbrev given : Walked → ℕ
+given (walked.Next x) = x .place
+given walked.End = 0
+given (walked.Refused x) = 1
+
+-- at 0 the first; on the places of the three, and from inside the fixed part; nothing at the end and past it
+pub walks : map (λ (from : ℕ). given (nextIn 0xABCD from three)) (0 ∷ 63 ∷ 64 ∷ 70 ∷ 84 ∷ 88 ∷ 1000 ∷ []) ≡ 64 ∷ 64 ∷ 64 ∷ 70 ∷ 84 ∷ 0 ∷ 0 ∷ []
+unfolding nextIn standing checkOf refuse fixedSize be faultOf walk walkBy nextOf misfitAt numbered HasForm dataOctets
+walks = refl
+
+-- inside a TLV stands none: its data 0x5678 are no length
+pub walk-astray : nextIn 0xABCD 66 three ≡ walked.Refused (Tlv 66)
+unfolding nextIn standing refuse fixedSize be nextOf
+walk-astray = refl
+
+pub walk-refused : nextIn 0xABCD 0 (plain 0x0 2 64 40 (six ++ wrongTlv)) ≡ walked.Refused (WrBad 50)
+unfolding nextIn standing checkOf refuse fixedSize be faultOf walk walkBy nextOf misfitAt numbered HasForm dataOctets
+walk-refused = refl
+
+-- a call that goes on looks at what stands there alone: the first is whole, the second has a wrong size
+pub walk-goes-on : map (λ (from : ℕ). walkedCode (nextIn 0xABCD from (plain 0x0 2 64 40 (six ++ wrongTlv)))) (0 ∷ 44 ∷ 50 ∷ []) ≡ (7 + 256 * 50) ∷ 0 ∷ (7 + 256 * 50) ∷ []
+unfolding nextIn standing checkOf refuse fixedSize be faultOf walk walkBy nextOf misfitAt numbered HasForm dataOctets
+walk-goes-on = refl
+
+-- the data of the second
+pub walk-data : dataFrom 0xABCD 70 three ≡ drop 4 suffixTlv
+unfolding dataFrom nextIn standing checkOf refuse fixedSize be faultOf walk walkBy nextOf misfitAt numbered HasForm dataOctets
+walk-data = refl

@@ -1,5 +1,5 @@
 -- Reading: the checks in their order, and the message (01, "Numbers that refuse").
-use Prim.Native.Nat.{ℕ}
+use Prim.Native.Nat.{ℕ, _+_, _<_}
 use mathlib.Core.List.{List}
 use mathlib.Core.Bool.{Bool, not, _&&_}
 use lib.Dec.{eqb, ltb, leb}
@@ -8,10 +8,12 @@ use Rattle.refusal.specs.Limits.{secondNanos}
 use Rattle.octets.specs.Be.{be}
 use Rattle.refusal.specs.Choice.{refuse}
 use Rattle.refusal.specs.declared.Refusal.{Refusal}
-use Rattle.refusal.specs.declared.Refusal.the-variants.{Short, Version, «Type», Length, Stamp}
+use Rattle.refusal.specs.declared.Refusal.the-variants.{Short, Version, «Type», Length, Stamp, Tlv, WrBad}
 use Rattle.refusal.specs.declared.Outcome.{Outcome}
 use Rattle.refusal.specs.declared.Outcome.the-variants as outcome
-use Rattle.tlv.specs.Faults.{tailCheck}
+use Rattle.tlv.specs.Faults.{faultOf}
+use Rattle.tlv.specs.declared.walk.Fault.{Fault}
+use Rattle.tlv.specs.declared.walk.Fault.the-variants as fault
 use Rattle.message.specs.Fields.{typeOf, versionOf, lengthOf, fixedSize, messageOf, tailOf}
 use Rattle.message.specs.declared.reading.Reading.{Reading}
 use Rattle.message.specs.declared.reading.Reading.the-variants as reading
@@ -20,21 +22,41 @@ use Rattle.message.specs.declared.reading.Reading.the-variants as readin
 abbrev pub badStamp : ℕ → List ℕ → Bool
 badStamp kind s = not (eqb kind 0xC) && leb secondNanos (be 4 s 40)
 
--- "Reading checks in this order: under 34 octets (1), 2, 3, 4, messageLength (1), 5, 6, 7."
-unfoldable pub checkOf : ℕ → List ℕ → Outcome
-checkOf magic s =
-    refuse (ltb (length s) 34) (outcome.Refused Short)
-    (refuse (not (eqb (versionOf s) 2)) (outcome.Refused Version)
-    (refuse (eqb (fixedSize (typeOf s)) 0) (outcome.Refused «Type»)
-    (refuse (ltb (lengthOf s) (fixedSize (typeOf s))) (outcome.Refused Length)
-    (refuse (ltb (length s) (lengthOf s)) (outcome.Refused Short)
-    (refuse (badStamp (typeOf s) s) (outcome.Refused Stamp)
-    (tailCheck magic (tailOf s)))))))
+-- "each refusal 6 or 7, in every call, that of the first TLV with that fault or of a leftover of one to three octets": its offset
+-- in the message, whose fixed part has `size` octets
+abbrev pub faultCheck : ℕ → Fault → Outcome
+faultCheck size fault.Sound = outcome.Done
+faultCheck size (fault.Broken p) = outcome.Refused (Tlv (size + p))
+faultCheck size (fault.Misfit p) = outcome.Refused (WrBad (size + p))
 
--- what a call answers, by the checks: "A refusal returns its number alone."
+-- "Reading checks in this order: under 34 octets (1), 2, 3, 4, messageLength (1), 5": the checks before the tail's, and what comes
+-- after them
+abbrev pub headed : {A : Type 0} → (Refusal → A) → A → List ℕ → A
+headed refused rest s =
+    refuse (ltb (length s) 34) (refused Short)
+    (refuse (not (eqb (versionOf s) 2)) (refused Version)
+    (refuse (eqb (fixedSize (typeOf s)) 0) (refused «Type»)
+    (refuse (ltb (lengthOf s) (fixedSize (typeOf s))) (refused Length)
+    (refuse (ltb (length s) (lengthOf s)) (refused Short)
+    (refuse (badStamp (typeOf s) s) (refused Stamp)
+    rest)))))
+
+-- "6, 7"
+unfoldable pub checkOf : ℕ → List ℕ → Outcome
+checkOf magic s = headed outcome.Refused (faultCheck (fixedSize (typeOf s)) (faultOf magic (tailOf s))) s
+
+-- what a call answers, by the checks: "A refusal returns its number alone.", but for 6 and 7
 abbrev pub by : {A : Type 0} → Outcome → (Refusal → A) → A → A
 by outcome.Done refused a = a
 by (outcome.Refused x) refused a = refused x
 
 unfoldable pub readOf : ℕ → List ℕ → Reading
 readOf magic s = by (checkOf magic s) reading.Refused (reading.Whole (messageOf s))
+
+-- ---- WHAT ONLY THE CODE NEEDS: steps on the way to the answers above, and no rule of 01
+
+-- the fault stands where an offset of two octets can say
+abbrev pub IsPlaced : ℕ → Fault → Type 0
+IsPlaced size fault.Sound = Unit {0}
+IsPlaced size (fault.Broken p) = size + p < 65536
+IsPlaced size (fault.Misfit p) = size + p < 65536

@@ -1,12 +1,13 @@
--- "Given exactly when" of the table (01, "Numbers that refuse"), with the order in which reading looks: for each number
--- that the checks give, what the octets are like, 0 where nothing is refused. In proofs/Exactly.antt each answer of a call has its
+-- "Given exactly when" of the table (01, "Numbers that refuse"), with the order in which reading looks and the places of 02, (i): for each
+-- number that the checks give, what the octets are like, 0 where nothing is refused. In proofs/Exactly.antt each answer of a call has its
 -- line here, and each line that holds is the answer.
-use Prim.Native.Nat.{ℕ, _≤_, _<_}
+use Prim.Native.Nat.{ℕ, _+_, _≤_, _<_}
 use mathlib.Core.Path.{_≡_}
 use mathlib.Core.List.{List}
 use mathlib.Core.Bool.{true, false}
 use lib.ListN.{length}
-use Rattle.tlv.specs.Walk.{Reached, TlvAt, NoTlv}
+use Rattle.refusal.specs.Refusal.{placed}
+use Rattle.tlv.specs.Walk.{Reached, BreaksAt, FirstTlv, NoTlv}
 use Rattle.tlv.specs.Form.{misfitAt}
 use Rattle.message.specs.Fields.{typeOf, versionOf, lengthOf, fixedSize, tailOf}
 use Rattle.message.specs.Reading.{badStamp}
@@ -48,10 +49,10 @@ pub data When (magic : ℕ) (s : List ℕ) : ℕ → Type 0 where
   beyond : IsSized s → length s < lengthOf s → When magic s 1
   -- "a timestamp's nanoseconds are 1,000,000,000 or more"
   stamp : IsLent s → badStamp (typeOf s) s ≡ true → When magic s 5
-  -- "the tail is not whole TLVs of even length"
-  tlv : IsStamped s → (Reached (tailOf s) (length (tailOf s)) → ⊥) → When magic s 6
-  -- "a known WR message with a wrong data size"
-  wrbad : IsWhole s → {p : ℕ} → TlvAt (tailOf s) p → misfitAt magic (tailOf s) p ≡ true → When magic s 7
+  -- "the tail is not whole TLVs of even length": the offset is that of what is none, and all before it are
+  tlv : {p : ℕ} → IsStamped s → BreaksAt (tailOf s) p → When magic s (placed 6 (fixedSize (typeOf s) + p))
+  -- "a known WR message with a wrong data size": the offset is that of the first
+  wrbad : {p : ℕ} → IsWhole s → FirstTlv (misfitAt magic (tailOf s)) (tailOf s) p → When magic s (placed 7 (fixedSize (typeOf s) + p))
   -- nothing is refused
   sound : IsWhole s → NoTlv (misfitAt magic (tailOf s)) (tailOf s) → When magic s 0
 

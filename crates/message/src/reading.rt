@@ -1,8 +1,9 @@
 // The checks of reading, and a message read.
 ghost use mathlib.Core.Path.{_≡_};
-ghost use Prim.Native.Nat.{_≤_};
+ghost use Prim.Native.Nat.{_+_, _≤_, _<_};
 ghost use lib.ListN.{length};
-ghost use Rattle.message.specs.Reading.{badStamp, checkOf, readOf};
+ghost use Rattle.tlv.specs.Faults.{faultOf};
+ghost use Rattle.message.specs.Reading.{badStamp, IsPlaced, faultCheck, checkOf, readOf};
 use crate::fields::ANNOUNCE;
 use crate::fields::Announce;
 use crate::fields::Header;
@@ -10,6 +11,7 @@ use crate::fields::Message;
 use crate::fields::SIGNALING;
 use refusal::Outcome;
 use refusal::Refusal;
+use tlv::walk::Fault;
 
 // A message, or the number that refuses it.
 pub enum Reading {
@@ -26,6 +28,34 @@ pub fn bad_stamp(s: &[u8], kind: u8) -> bool
         return false;
     }
     octets::held::u32_at(s, 40) >= refusal::SECOND_NANOS
+}
+
+// A place in the tail as one in the message, whose fixed part has `size` octets.
+pub fn place_in(size: usize, p: usize) -> u16
+    requires { ⌜ size + p < 65536 ⌝ }
+    ensures { λ r. ⌜ r ≡ size + p ⌝ }
+{
+    (size + p) as u16
+}
+
+// What a fault of the tail refuses, with its place in the message.
+fn fault_check(size: usize, x: Fault) -> Outcome
+    requires { ⌜ IsPlaced size x ⌝ }
+    ensures { λ r. ⌜ r ≡ faultCheck size x ⌝ }
+{
+    match x {
+        Fault::Sound => Outcome::Done,
+        Fault::Broken(p) => Outcome::Refused(Refusal::Tlv(place_in(size, p))),
+        Fault::Misfit(p) => Outcome::Refused(Refusal::WrBad(place_in(size, p))),
+    }
+}
+
+// The checks of a tail behind a fixed part of `size` octets: 6, then 7.
+pub fn tail_check(t: &[u8], size: usize, magic: u16) -> Outcome
+    requires { ⌜ size + length (now t) < 65536 ⌝ }
+    ensures { λ r. ⌜ r ≡ faultCheck size (faultOf magic (now (t .entry))) ⌝ }
+{
+    fault_check(size, tlv::walk::first_fault(t, magic))
 }
 
 // The checks: under 34 octets, 2, 3, 4, messageLength, 5, then the tail's 6 and 7.
@@ -57,7 +87,7 @@ pub fn check(s: &[u8], magic: u16) -> Outcome
         return Outcome::Done;
     }
     let tail = &s[size..length];
-    tlv::walk::check(tail, magic)
+    tail_check(tail, size, magic)
 }
 
 // Any octets at all, read.

@@ -21,6 +21,9 @@ are-same-determined κs a x y v w p q = (p ∙ sym q, refl)
 pub is-whole-determined : Fixes its.is_whole.ended its.is_whole.Reads.Post
 is-whole-determined κs a x y v w p q = (p ∙ sym q, refl)
 
+pub put-walked-determined : Fixes its.answers.put_walked.ended its.answers.put_walked.Reads.Post
+put-walked-determined κs a x y v w p q = (p .0 ∙ sym (q .0), λ i. ((p .1 ∙ sym (q .1)) i, w .1))
+
 pub put-tlv-determined : Fixes its.answers.put_tlv.ended its.answers.put_tlv.Reads.Post
 put-tlv-determined κs a x y v w p q = (p .0 ∙ sym (q .0), λ i. ((p .1 ∙ sym (q .1)) i, w .1))
 

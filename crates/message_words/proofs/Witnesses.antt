@@ -13,10 +13,11 @@ use Rattle.message.specs.declared.fields.Body.the-variants as body
 use Rattle.message.specs.declared.fields.Message.{Message}
 use Rattle.message.specs.declared.reading.Reading.the-variants as reading
 use Rattle.message.specs.declared.parts.TlvRead.the-variants as lookup
+use Rattle.message.specs.declared.tlvs.Walked.the-variants as walk
 use Rattle.message.specs.declared.parts.SuffixRead.the-variants as flags
 use Rattle.message.specs.Fields.{fixedSize}
 use Rattle.message_words.specs.Words.{messageWords, bodyWords, messageOf, headerOf, bodyOf, announceOf}
-use Rattle.message_words.specs.Answers.{tailWords, tlvWords, suffixWords, originWords, linkMessageWords}
+use Rattle.message_words.specs.Answers.{tailWords, tlvWords, walkedWords, suffixWords, originWords, linkMessageWords}
 use Rattle.message_words.specs.Writing.{linkMessageOf}
 
 -- correction -2, interval -3
@@ -113,6 +114,7 @@ pub record Links : Type 0 where
   pub calibrated-in : linkMessageOf (0x1004 ∷ 31 ∷ 32 ∷ 33 ∷ 34 ∷ 35 ∷ []) ≡ Calibrated 34 35
   pub tail : tailWords (reading.Whole (with-body announced)) 41 [] ≡ 64 ∷ 41 ∷ []
   pub tlv : tlvWords (lookup.Found 42) 43 [] ≡ 1 ∷ 42 ∷ 43 ∷ []
+  pub walked : walkedWords (walk.Next (record { place = 70; kind = 3; length = 10 })) [] ≡ 1 ∷ 70 ∷ 3 ∷ 10 ∷ 74 ∷ 84 ∷ []
   pub suffix : suffixWords (flags.Flags 7) [] ≡ 1 ∷ 7 ∷ []
   pub stamp : originWords outcome.Done (0 ∷ 0 ∷ 0 ∷ 0 ∷ 1 ∷ 2 ∷ 0 ∷ 0 ∷ 3 ∷ 4 ∷ []) [] ≡ 258 ∷ 772 ∷ []
 
@@ -130,6 +132,7 @@ links =
       calibrated-in = refl;
       tail = refl;
       tlv = refl;
+      walked = refl;
       suffix = refl;
       stamp = refl;
     }

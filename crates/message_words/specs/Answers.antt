@@ -1,5 +1,5 @@
--- What reading answers: the number returned, and the words at exit, which a refusal leaves as they were.
-use Prim.Native.Nat.{ℕ}
+-- What reading answers: the number returned, with its place, and the words at exit, which a refusal leaves as they were.
+use Prim.Native.Nat.{ℕ, _+_}
 use mathlib.Core.List.{List, [], _∷_}
 use Rattle.refusal.specs.declared.Outcome.{Outcome}
 use Rattle.refusal.specs.declared.Outcome.the-variants as outcome
@@ -8,7 +8,10 @@ use Rattle.layout.specs.Layout.{sizeOf}
 use Rattle.tlv.specs.Numbers.{SLAVE-PRESENT, LOCK, LOCKED, CALIBRATE, CALIBRATED, WR-MODE-ON}
 use Rattle.tlv.specs.declared.wr.LinkMessage.{LinkMessage}
 use Rattle.tlv.specs.declared.wr.LinkMessage.the-variants.{SlavePresent, Lock, Locked, Calibrate, Calibrated, ModeOn}
-pub use Rattle.message.specs.Answers.{readCode, tlvCode, suffixCode, linkCode}
+pub use Rattle.message.specs.Answers.{readCode, tlvCode, walkedCode, suffixCode, linkCode}
+use Rattle.message.specs.Tlvs.{beginOf, endOf}
+use Rattle.message.specs.declared.tlvs.Walked.{Walked}
+use Rattle.message.specs.declared.tlvs.Walked.the-variants as walked
 use Rattle.message.specs.declared.reading.Reading.{Reading}
 use Rattle.message.specs.declared.reading.Reading.the-variants as reading
 use Rattle.message.specs.declared.parts.TlvRead.{TlvRead}
@@ -33,6 +36,12 @@ abbrev pub tlvWords : TlvRead → ℕ → List ℕ → List ℕ
 tlvWords (lookup.Found at) size out = 1 ∷ at ∷ size ∷ []
 tlvWords lookup.Absent size out = 0 ∷ 0 ∷ 0 ∷ []
 tlvWords (lookup.Refused x) size out = out
+
+-- 1, where the TLV stands in the message, its type, how many octets of data it has, where they begin and where it ends; zeros where there is none
+abbrev pub walkedWords : Walked → List ℕ → List ℕ
+walkedWords (walked.Next x) out = 1 ∷ x .place ∷ x .kind ∷ x .length ∷ beginOf x ∷ endOf x ∷ []
+walkedWords walked.End out = 0 ∷ 0 ∷ 0 ∷ 0 ∷ 0 ∷ 0 ∷ []
+walkedWords (walked.Refused x) out = out
 
 -- 1 and wrFlags, or zeros
 abbrev pub suffixWords : SuffixRead → List ℕ → List ℕ

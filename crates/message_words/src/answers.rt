@@ -1,13 +1,14 @@
-// What reading answers, put into words that are lent: the number returned is 0, or that of the refusal, and then the words
-// are as they were.
+// What reading answers, put into words that are lent: 0 is returned, or the refusal's number and place, and then the words are
+// as they were.
 ghost use mathlib.Core.Path.{_≡_};
 ghost use Prim.Native.Nat.{_≤_};
 ghost use lib.ListN.{length};
-ghost use Rattle.message_words.specs.Answers.{tlvCode, tlvWords, suffixCode, suffixWords, linkMessageWords, linkCode, linkWords};
+ghost use Rattle.message_words.specs.Answers.{tlvCode, tlvWords, walkedCode, walkedWords, suffixCode, suffixWords, linkMessageWords, linkCode, linkWords};
 ghost use Rattle.message_words.specs.Reading.{stampWords};
 use message::parts::LinkRead;
 use message::parts::SuffixRead;
 use message::parts::TlvRead;
+use message::tlvs::Walked;
 use tlv::wr::LinkMessage;
 
 // A TLV looked up: 1, where its data begin in the message and how many octets they are, or zeros.
@@ -16,7 +17,7 @@ pub fn put_tlv(out: &mut [u64; 3], x: TlvRead, length: usize) -> u64
     ensures words { λ _. ⌜ now (out .exit) ≡ tlvWords x length (now (out .entry)) ⌝ }
 {
     match x {
-        TlvRead::Refused(y) => refusal::number(y),
+        TlvRead::Refused(y) => refusal::answer(y),
         TlvRead::Absent => {
             *out = [0; 3];
             0
@@ -28,13 +29,33 @@ pub fn put_tlv(out: &mut [u64; 3], x: TlvRead, length: usize) -> u64
     }
 }
 
+// A TLV of a message: 1, where it stands, its type, how many octets of data it has, where they begin and where it ends; or zeros.
+pub fn put_walked(out: &mut [u64; 6], x: Walked) -> u64
+    ensures answer { λ r. ⌜ r ≡ walkedCode x ⌝ }
+    ensures words { λ _. ⌜ now (out .exit) ≡ walkedWords x (now (out .entry)) ⌝ }
+{
+    match x {
+        Walked::Refused(y) => refusal::answer(y),
+        Walked::End => {
+            *out = [0; 6];
+            0
+        }
+        Walked::Next(v) => {
+            let at = v.place as u64;
+            let n = v.length as u64;
+            *out = [1, at, v.kind as u64, n, at + 4, at + 4 + n];
+            0
+        }
+    }
+}
+
 // The suffix of an Announce: 1 and wrFlags, or zeros.
 pub fn put_suffix(out: &mut [u64; 2], x: SuffixRead) -> u64
     ensures answer { λ r. ⌜ r ≡ suffixCode x ⌝ }
     ensures words { λ _. ⌜ now (out .exit) ≡ suffixWords x (now (out .entry)) ⌝ }
 {
     match x {
-        SuffixRead::Refused(y) => refusal::number(y),
+        SuffixRead::Refused(y) => refusal::answer(y),
         SuffixRead::Absent => {
             *out = [0; 2];
             0
@@ -83,7 +104,7 @@ pub fn put_link(out: &mut [u64; 7], x: LinkRead) -> u64
     ensures words { λ _. ⌜ now (out .exit) ≡ linkWords x (now (out .entry)) ⌝ }
 {
     match x {
-        LinkRead::Refused(y) => refusal::number(y),
+        LinkRead::Refused(y) => refusal::answer(y),
         LinkRead::Absent => {
             *out = [0; 7];
             0

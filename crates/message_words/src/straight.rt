@@ -95,7 +95,7 @@ fn check(w: &[u64; 20], tail: &[u8], magic: u16, room: usize) -> Outcome
     if tail.len() > 65535 - size {
         return Outcome::Refused(Refusal::Field);
     }
-    match tlv::walk::check(tail, magic) {
+    match message::reading::tail_check(tail, size, magic) {
         Outcome::Refused(_) => Outcome::Refused(Refusal::Field),
         Outcome::Done => {
             if room < size + tail.len() {

@@ -52,7 +52,7 @@ pub fn put_written(out: &mut [u64; 1], x: Written) -> u64
     ensures words { λ _. ⌜ now (out .exit) ≡ writtenWords x (now (out .entry)) ⌝ }
 {
     match x {
-        Written::Refused(y) => refusal::number(y),
+        Written::Refused(y) => refusal::answer(y),
         Written::Octets(n) => {
             *out = [n as u64];
             0

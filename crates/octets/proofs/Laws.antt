@@ -6,8 +6,8 @@ use mathlib.Core.List.{List, [], _∷_}
 use native.Mathlib.Nat.{pow-suc, add-suc, suc-add, add-zero, zero-add, pow-zero, add-assoc, add-comm, pow-le-pow-right, lt-of-lt-of-le, div-lt-iff-lt-mul, div-add-mod'}
 use native.Mathlib.Numerals.{sub-one}
 use native.Mathlib.Omega.{arith}
-use lib.ListN.{length, getD, set, drop, length-set}
-use lib.Seq.{getD-drop}
+use lib.ListN.{length, getD, set, take, drop, length-set}
+use lib.Seq.{getD-drop, getD-take}
 use lib.Arith.{digits-lt}
 use Rattle.octets.specs.Be.{be, octetsOf}
 
@@ -50,6 +50,12 @@ pub be-drop : (n k : ℕ) (s : List ℕ) (at : ℕ) → be n (drop k s) at ≡ b
 unfolding be
 be-drop zero k s at = refl
 be-drop (suc n) k s at = rw (be-drop n k s at, getD-drop, add-assoc)
+
+-- the octets before place k
+pub be-take : (n k : ℕ) (s : List ℕ) (at : ℕ) → at + n ≤ k → be n (take k s) at ≡ be n s at
+unfolding be
+be-take zero k s at h = refl
+be-take (suc n) k s at h = rw (be-take n k s at (omega arith), getD-take k s (at + n) 0 (omega arith))
 
 -- two halves, of m and of n octets
 pub be-split : (m n : ℕ) (s : List ℕ) (at : ℕ) → be (m + n) s at ≡ be m s at * 256 ^ n + be n s (at + m)

@@ -6,12 +6,13 @@ use mathlib.Core.Bool.{Bool, true, false, _&&_}
 use native.Mathlib.Omega.{arith}
 use borrow.Author.Tests.{eq-eqb, eqb-true}
 use Rattle.refusal.specs.Choice.{refuse}
-use Rattle.refusal.specs.Refusal.{numberOf, codeOf}
+use Rattle.refusal.specs.Refusal.{answerOf, codeOf}
+use Rattle.refusal.proofs.Numbers.{answered}
 use Rattle.refusal.specs.declared.Outcome.{Outcome}
 use Rattle.refusal.specs.declared.Outcome.the-variants.{Done, Refused}
 use Rattle.message.specs.Reading.{by}
 use Rattle.message.specs.When.{TakesWhen}
-use Rattle.message.proofs.Exactly.{counted, none-refused, when-takes, takes-told}
+use Rattle.message.proofs.Exactly.{none-refused, when-takes, takes-told}
 use Rattle.origin.specs.Origin.{isTwoStep, takesOf, follows, followCheck, originCheck}
 use Rattle.origin.specs.When.{Follows, IsTwoStep, OriginWhen, of-sync, one-step, of-follow, mismatch, two-step}
 
@@ -104,13 +105,13 @@ module _ (magic : ℕ) (sync follow : List ℕ) where
   -- which line it is
   by-follow : IsTwoStep magic sync → (o : Outcome) → takesOf magic 0x8 follow ≡ o → (b : Bool) → follows sync follow ≡ b
       → (n : ℕ) × OriginWhen magic sync follow n
-  by-follow p (Refused x) e b f = (numberOf x, of-follow p (line magic 0x8 follow e) (counted x))
+  by-follow p (Refused x) e b f = (answerOf x, of-follow p (line magic 0x8 follow e) (answered x))
   by-follow p Done e true f = (0, two-step p (line magic 0x8 follow e) (agrees sync follow f))
   by-follow p Done e false f =
       (3, mismatch p (line magic 0x8 follow e) (λ g. absurd (let z : _≡_ {A = Bool} false true = sym f ∙ agreeing sync follow g in let y : _≡_ {A = ℕ} 0 1 = cc in omega arith)))
 
   by-sync : (o : Outcome) → takesOf magic 0x0 sync ≡ o → (b : Bool) → isTwoStep sync ≡ b → (n : ℕ) × OriginWhen magic sync follow n
-  by-sync (Refused x) e b t = (numberOf x, of-sync (line magic 0x0 sync e) (counted x))
+  by-sync (Refused x) e b t = (answerOf x, of-sync (line magic 0x0 sync e) (answered x))
   by-sync Done e false t = (0, one-step (line magic 0x0 sync e, t))
   by-sync Done e true t =
       by-follow (line magic 0x0 sync e, t) (takesOf magic 0x8 follow) refl (follows sync follow) refl

@@ -8,7 +8,8 @@ use native.Mathlib.Omega.{arith}
 use borrow.Author.Tests.{eq-eqb, ne-eqb, eqb-true, eqb-false}
 use lib.Dec.{eqb}
 use Rattle.refusal.specs.Choice.{refuse}
-use Rattle.refusal.specs.Refusal.{numberOf, codeOf}
+use Rattle.refusal.specs.Refusal.{answerOf, codeOf}
+use Rattle.refusal.proofs.Numbers.{answered}
 use Rattle.refusal.specs.declared.Refusal.the-variants.{«Type»}
 use Rattle.refusal.specs.declared.Outcome.{Outcome}
 use Rattle.refusal.specs.declared.Outcome.the-variants as outcome
@@ -20,7 +21,7 @@ use Rattle.message.specs.Answers.{announcedCode}
 use Rattle.message.specs.declared.announce.Announced.{Announced}
 use Rattle.message.specs.declared.announce.Announced.the-variants as announced
 use Rattle.message.specs.declared.announce.Heard.{Heard}
-use Rattle.message.proofs.Exactly.{counted, announced-told, when-announced}
+use Rattle.message.proofs.Exactly.{announced-told, when-announced}
 use Rattle.rank.specs.Ranked.{isPort}
 use Rattle.senders.specs.declared.Notice as kept
 use Rattle.senders.specs.Port.{planOf, outcomeOf}
@@ -67,7 +68,7 @@ module _ (set : Settings) (port : ℕ) (s : List ℕ) where
   -- an Announce that is read is judged by its header
   judged : (x : Announced) → announcedOf (set .magic) s ≡ x → announcedCode x ≡ 0
       → (h : Heard) × ((admittedBy set x ≡ judgedOf set h) × (h .header ≡ headerOf s))
-  judged (announced.Refused x) e z = absurd (omega (arith, counted x, z))
+  judged (announced.Refused x) e z = absurd (omega (arith, answered x, z))
   judged (announced.Whole h) e z = (h, (refl, header-is set s e))
 
   of-announce : IsAnnounce set port s → (h : Heard) × ((admittedOf set port s ≡ judgedOf set h) × (h .header ≡ headerOf s))
@@ -96,7 +97,7 @@ module _ (set : Settings) (port : ℕ) (s : List ℕ) where
       → (d : Bool) → eqb (headerOf s .domain) (set .domain) ≡ d → (c : Bool) → eqb (headerOf s .source .clock) (set .clock) ≡ c
       → (n : ℕ) × AdmittedWhen set port s n
   line false i x e d ed c ec = (8, no-port i)
-  line true i (announced.Refused x) e d ed c ec = (numberOf x, unread i (read-as set s (announced.Refused x) e) (counted x))
+  line true i (announced.Refused x) e d ed c ec = (answerOf x, unread i (read-as set s (announced.Refused x) e) (answered x))
   line true i (announced.Whole h) e false ed c ec =
       (9, other-domain (i, read-as set s (announced.Whole h) e) (eqb-false _ _ ed))
   line true i (announced.Whole h) e true ed true ec =

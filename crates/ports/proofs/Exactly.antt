@@ -1,13 +1,13 @@
 -- Taking an Announce is answered with 0, 11, 12 and 13 exactly when the table says, for any words.
 use mathlib.Core.Path.{_≡_, refl, ap, subst, _∙_}
 use mathlib.Core.List.{List}
-use Prim.Native.Nat.{ℕ, _≤_}
+use Prim.Native.Nat.{ℕ, _%_, _≤_}
 use native.Mathlib.Omega.{arith}
 use lib.ListN.{length}
-use Rattle.refusal.specs.Refusal.{numberOf, codeOf}
+use Rattle.refusal.specs.Refusal.{answerOf, codeOf}
+use Rattle.refusal.proofs.Numbers.{counted, number-back}
 use Rattle.refusal.specs.declared.Refusal.the-variants.{Backward, Stale, Full}
 use Rattle.message.specs.When.{When, few, version, unlisted, below, beyond, stamp, tlv, wrbad, sound, TakesWhen, other as takes-other, unread as takes-unread, taken as takes-taken}
-use Rattle.message.proofs.Exactly.{counted}
 use Rattle.senders.specs.declared.Notice as kept
 use Rattle.senders.specs.declared.Plan.{Plan}
 use Rattle.senders.specs.Port as senders
@@ -28,8 +28,8 @@ use Rattle.ports.proofs.Admitting.{admitted-told}
 use Rattle.ports.proofs.Laws.{admitted-port}
 use Rattle.ports.proofs.Promises.{one-record}
 
--- ---- before the records are looked at, the numbers are 1 to 10
-read-low : {magic : ℕ} {s : List ℕ} {n : ℕ} → When magic s n → n ≤ 10
+-- ---- before the records are looked at, the numbers are 1 to 10; those of 6 and 7 have places above them
+read-low : {magic : ℕ} {s : List ℕ} {n : ℕ} → When magic s n → n % 256 ≤ 10
 read-low (few l) = omega arith
 read-low (version h v) = omega arith
 read-low (unlisted h u) = omega arith
@@ -37,15 +37,15 @@ read-low (below h l) = omega arith
 read-low (beyond h l) = omega arith
 read-low (stamp h b) = omega arith
 read-low (tlv h b) = omega arith
-read-low (wrbad h v m) = omega arith
+read-low (wrbad h v) = omega arith
 read-low (sound h v) = omega arith
 
-takes-low : {magic kind : ℕ} {s : List ℕ} {n : ℕ} → TakesWhen magic kind s n → n ≤ 10
+takes-low : {magic kind : ℕ} {s : List ℕ} {n : ℕ} → TakesWhen magic kind s n → n % 256 ≤ 10
 takes-low (takes-unread w h) = read-low w
 takes-low (takes-other w h) = omega arith
 takes-low (takes-taken w h) = omega arith
 
-line-low : {set : Settings} {port : ℕ} {s : List ℕ} {n : ℕ} → AdmittedWhen set port s n → n ≤ 10
+line-low : {set : Settings} {port : ℕ} {s : List ℕ} {n : ℕ} → AdmittedWhen set port s n → n % 256 ≤ 10
 line-low (no-port e) = omega arith
 line-low (unread e w h) = takes-low w
 line-low (other-domain a d) = omega arith
@@ -53,11 +53,11 @@ line-low (own-clock a d c) = omega arith
 line-low (admitted a d c) = omega arith
 
 abbrev Low : admission.Admitted → Type 0
-Low (Refused x) = (1 ≤ numberOf x) × (numberOf x ≤ 10)
+Low (Refused x) = (1 ≤ answerOf x % 256) × (answerOf x % 256 ≤ 10)
 Low (Notice a) = Unit {0}
 
-low-by : (q : admission.Admitted) → admittedCode q ≤ 10 → Low q
-low-by (Refused x) l = (counted x, l)
+low-by : (q : admission.Admitted) → admittedCode q % 256 ≤ 10 → Low q
+low-by (Refused x) l = (rw (number-back x) (counted x .0), l)
 low-by (Notice a) l = tt
 
 admitted-low : (set : Settings) (port : ℕ) (s : List ℕ) → Low (admittedOf set port s)
@@ -75,15 +75,15 @@ module _ (set : Settings) (ws : List ℕ) (port t : ℕ) (s : List ℕ) where
   size = length-tab 16 (slotAt (own ws port))
 
   module _ (W : senders.Port → ℕ → kept.Notice → Type 0) (n : ℕ) where
-    only-by : (q : admission.Admitted) → admittedOf set port s ≡ q → ((m : ℕ) → 1 ≤ m → m ≤ 10 → m ≡ n → ⊥)
+    only-by : (q : admission.Admitted) → admittedOf set port s ≡ q → ((m : ℕ) → 1 ≤ m % 256 → m % 256 ≤ 10 → m ≡ n → ⊥)
         → ((a : kept.Notice) → planNumber (senders.planOf p t a) ≡ n → W p t a) → planNumber (planBy p t q) ≡ n → Given W set ws port t s
     only-by (Refused y) e other w f =
         let low : Low (Refused y) = subst Low e (admitted-low set port s) in
-        absurd (other (numberOf y) (low .0) (low .1) f)
+        absurd (other (answerOf y) (low .0) (low .1) f)
     only-by (Notice a) e other w f = record { notice = a; admitted = e; when = w a f }
 
     -- a number that admission does not give
-    number-only : ((m : ℕ) → 1 ≤ m → m ≤ 10 → m ≡ n → ⊥) → ((a : kept.Notice) → planNumber (senders.planOf p t a) ≡ n → W p t a)
+    number-only : ((m : ℕ) → 1 ≤ m % 256 → m % 256 ≤ 10 → m ≡ n → ⊥) → ((a : kept.Notice) → planNumber (senders.planOf p t a) ≡ n → W p t a)
         → takeNumber set ws port t s ≡ n → Given W set ws port t s
     unfolding planAt
     number-only other w f = only-by (admittedOf set port s) refl other w f
@@ -133,12 +133,12 @@ module _ (set : Settings) (ws : List ℕ) (port t : ℕ) (s : List ℕ) where
   pub taken-only : takeNumber set ws port t s ≡ 0 → Given WhenTaken set ws port t s
   taken-only = number-only WhenTaken 0 (λ m l h e. omega arith) (λ a. exactly.taken-only p t a size)
 
-  few-by : (q : admission.Admitted) → Low q → planNumber (planBy p t q) ≤ 13
-  few-by (Refused x) low = omega arith
-  few-by (Notice a) low = exactly.plan-at-most p t a size
+  few-by : (q : admission.Admitted) → Low q → planNumber (planBy p t q) % 256 ≤ 13
+  few-by (Refused x) low = omega (arith, low .1)
+  few-by (Notice a) low = let h = exactly.plan-at-most p t a size in omega (arith, h)
 
-  -- no other number is given
-  pub thirteen-at-most : takeNumber set ws port t s ≤ 13
+  -- no other number is given, in the low eight bits
+  pub thirteen-at-most : takeNumber set ws port t s % 256 ≤ 13
   unfolding planAt
   thirteen-at-most = few-by (admittedOf set port s) (admitted-low set port s)
 

@@ -11,7 +11,7 @@ use Rattle.refusal.specs.Choice.{refuse}
 use Rattle.refusal.specs.declared.Refusal.the-variants.{Short, Port, Domain, Own, Backward, Stale}
 use Rattle.tlv.specs.Walk as walk
 use Rattle.tlv.specs.Form.{HasForm, numbered, misfitAt, dataOctets, suffixAt}
-use Rattle.tlv.specs.Faults.{tailCheck}
+use Rattle.tlv.specs.Faults.{faultOf}
 use Rattle.tlv.specs.Wr.{suffixIn}
 use Rattle.message.specs.Fields.{fixedSize, headerOf, announceOf, identityAt, stampOf}
 use Rattle.message.specs.Reading.{checkOf}
@@ -42,7 +42,7 @@ notice clock port sequence =
 
 -- what is kept of it: the sender's logMessageInterval is not
 heard : admittedOf ours 2 (announce 0 7 1 9) ≡ Notice (notice 7 1 9)
-unfolding admittedOf refuse announcedOf checkOf tailCheck fixedSize be headerOf announceOf identityAt stampOf suffixIn walk.walk walk.walkBy
+unfolding admittedOf refuse announcedOf checkOf faultOf fixedSize be headerOf announceOf identityAt stampOf suffixIn walk.walk walk.walkBy
 heard = refl
 
 -- an Announce with the suffix in which all that is kept differs: each number comes from its own octets
@@ -53,7 +53,7 @@ told =
 
 pub each-its-own : admittedOf ours 2 told
     ≡ Notice (record { sender = record { clock = 0x1112131415161718; port = 0x191A }; sequence = 0x1B1C; grandmaster = record { priority1 = 0x2F; class = 0x30; accuracy = 0x31; variance = 0x3233; priority2 = 0x34; identity = 0x35363738393A3B3C }; steps = 0x3D3E; wrflags = 7 })
-unfolding admittedOf refuse announcedOf checkOf tailCheck fixedSize be headerOf announceOf identityAt stampOf suffixIn suffixAt numbered HasForm misfitAt dataOctets walk.nextOf walk.walk walk.walkBy
+unfolding admittedOf refuse announcedOf checkOf faultOf fixedSize be headerOf announceOf identityAt stampOf suffixIn suffixAt numbered HasForm misfitAt dataOctets walk.nextOf walk.walk walk.walkBy
 each-its-own = refl
 
 -- refused before the records are looked at, in the order of the checks
@@ -66,12 +66,12 @@ unfolding admittedOf refuse announcedOf checkOf
 short = refl
 
 pub other-domain : admittedOf ours 2 (announce 1 5 1 9) ≡ Refused Domain
-unfolding admittedOf refuse announcedOf checkOf tailCheck fixedSize be headerOf announceOf identityAt stampOf suffixIn walk.walk walk.walkBy
+unfolding admittedOf refuse announcedOf checkOf faultOf fixedSize be headerOf announceOf identityAt stampOf suffixIn walk.walk walk.walkBy
 other-domain = refl
 
 -- our clock is our own whatever its port
 pub own-clock : admittedOf ours 2 (announce 0 5 99 9) ≡ Refused Own
-unfolding admittedOf refuse announcedOf checkOf tailCheck fixedSize be headerOf announceOf identityAt stampOf suffixIn walk.walk walk.walkBy
+unfolding admittedOf refuse announcedOf checkOf faultOf fixedSize be headerOf announceOf identityAt stampOf suffixIn walk.walk walk.walkBy
 own-clock = refl
 
 -- 98 words of zero, and after an Announce at 5

@@ -5,7 +5,7 @@ use Prim.Native.Nat.{ℕ, _<_}
 use mathlib.Core.Path.{_≡_}
 use mathlib.Core.List.{List}
 use mathlib.Core.Bool.{true, false}
-use Rattle.refusal.specs.Refusal.{numberOf}
+use Rattle.refusal.specs.Refusal.{answerOf}
 use Rattle.message.specs.Fields.{headerOf}
 use Rattle.message.specs.When.{TakesWhen}
 use Rattle.rank.specs.Ranked.{isPort}
@@ -15,7 +15,7 @@ use Rattle.ports.specs.declared.intake.Admitted.the-variants.{Refused, N
 
 -- this page's number of the answer
 abbrev pub admittedCode : Admitted → ℕ
-admittedCode (Refused x) = numberOf x
+admittedCode (Refused x) = answerOf x
 admittedCode (Notice a) = 0
 
 -- an Announce on one of the ports, which the reading checks let pass

@@ -11,7 +11,7 @@ use Rattle.ports.specs.declared.intake.Admitted.the-variants.{Notice}
 use Rattle.ports.specs.Words.{portAt}
 use Rattle.ports.specs.Intake.{admittedOf, planAt}
 
--- the number that taking the octets s on a port at t answers with; 0 is taken
+-- the number that taking the octets s on a port at t answers with, a 6 or 7 with its place; 0 is taken
 abbrev pub takeNumber : Settings → List ℕ → ℕ → ℕ → List ℕ → ℕ
 takeNumber set ws port t s = codeOf (outcomeOf (planAt set ws port t s))
 

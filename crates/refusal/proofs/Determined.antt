@@ -7,5 +7,8 @@ use Rattle.refusal.proofs as its
 pub number-determined : Fixes its.number.ended its.number.Reads.Post
 number-determined κs a x y v w p q = (p ∙ sym q, refl)
 
+pub answer-determined : Fixes its.answer.ended its.answer.Reads.Post
+answer-determined κs a x y v w p q = (p ∙ sym q, refl)
+
 pub code-determined : Fixes its.code.ended its.code.Reads.Post
 code-determined κs a x y v w p q = (p ∙ sym q, refl)

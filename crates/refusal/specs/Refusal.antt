@@ -1,5 +1,5 @@
--- The numbers that refuse (01, "Numbers that refuse").
-use Prim.Native.Nat.{ℕ}
+-- The numbers that refuse (01, "Numbers that refuse"), and the places that two of them have (02, (i)).
+use Prim.Native.Nat.{ℕ, _+_, _*_}
 use Rattle.refusal.specs.declared.Refusal.{Refusal}
 use Rattle.refusal.specs.declared.Refusal.the-variants.{Short, Version, «Type», Length, Stamp, Tlv, WrBad, Port, Domain, Own, Backward, Stale, Full, Range, Unranked, Room, Many, Field}
 use Rattle.refusal.specs.declared.Outcome.{Outcome}
@@ -12,8 +12,8 @@ numberOf Version = 2
 numberOf «Type» = 3
 numberOf Length = 4
 numberOf Stamp = 5
-numberOf Tlv = 6
-numberOf WrBad = 7
+numberOf (Tlv p) = 6
+numberOf (WrBad p) = 7
 numberOf Port = 8
 numberOf Domain = 9
 numberOf Own = 10
@@ -26,7 +26,36 @@ numberOf Room = 16
 numberOf Many = 17
 numberOf Field = 18
 
--- 0 where the work is done, else the refusal's number
+-- "6 and 7 now return this offset too": where in the message the fault stands; 0 of every refusal that returns its number alone
+abbrev pub placeOf : Refusal → ℕ
+placeOf (Tlv p) = p
+placeOf (WrBad p) = p
+placeOf Short = 0
+placeOf Version = 0
+placeOf «Type» = 0
+placeOf Length = 0
+placeOf Stamp = 0
+placeOf Port = 0
+placeOf Domain = 0
+placeOf Own = 0
+placeOf Backward = 0
+placeOf Stale = 0
+placeOf Full = 0
+placeOf Range = 0
+placeOf Unranked = 0
+placeOf Room = 0
+placeOf Many = 0
+placeOf Field = 0
+
+-- a number with a place: the number in the low eight bits, the place above them
+abbrev pub placed : ℕ → ℕ → ℕ
+placed number place = number + 256 * place
+
+-- what a refusal returns
+abbrev pub answerOf : Refusal → ℕ
+answerOf x = placed (numberOf x) (placeOf x)
+
+-- 0 where the work is done, else what the refusal returns
 abbrev pub codeOf : Outcome → ℕ
 codeOf Done = 0
-codeOf (Refused x) = numberOf x
+codeOf (Refused x) = answerOf x

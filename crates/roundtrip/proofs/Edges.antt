@@ -8,7 +8,7 @@ use Rattle.refusal.specs.Choice.{refuse}
 use Rattle.octets.specs.Be.{be}
 use Rattle.tlv.specs.Walk.{nextOf, walkBy, walk}
 use Rattle.tlv.specs.Form.{HasForm, dataOctets, numbered, misfitAt}
-use Rattle.tlv.specs.Faults.{tailCheck}
+use Rattle.tlv.specs.Faults.{faultOf}
 use Rattle.message.specs.Fields.{fixedSize}
 use Rattle.message.specs.declared.fields.Body.the-variants as body
 use Rattle.message.specs.declared.fields.Message.{Message}
@@ -41,12 +41,12 @@ buffer (suc n) = 0xEE ∷ buffer n
 pub sync-written : bufferOf 0xABCD (sync 3 0x010203040506 0x0708090A) [] (buffer 46)
     ≡ 0x30 ∷ 0x02 ∷ 0 ∷ 44 ∷ 1 ∷ 0 ∷ 0x02 ∷ 0 ∷ 0xFF ∷ 0xFF ∷ 0xFF ∷ 0xFF ∷ 0xFF ∷ 0xFF ∷ 0xFF ∷ 0xFF ∷ 0 ∷ 0 ∷ 0 ∷ 0
     ∷ 1 ∷ 2 ∷ 3 ∷ 4 ∷ 5 ∷ 6 ∷ 7 ∷ 8 ∷ 0 ∷ 9 ∷ 0x0A ∷ 0x0B ∷ 0 ∷ 0xFD ∷ 1 ∷ 2 ∷ 3 ∷ 4 ∷ 5 ∷ 6 ∷ 7 ∷ 8 ∷ 9 ∷ 0x0A ∷ 0xEE ∷ 0xEE ∷ []
-unfolding bufferOf writeCheck refuse tailCheck walk walkBy fixedSize stampFits messageOctets leadOctets identityOctets closeOctets stampOctets
+unfolding bufferOf writeCheck refuse faultOf walk walkBy fixedSize stampFits messageOctets leadOctets identityOctets closeOctets stampOctets
 sync-written = refl
 
 -- at the limits it is written into a buffer just large enough
 pub taken-at-the-limits : writeOf 0xABCD (sync 15 281474976710655 999999999) [] (buffer 44) ≡ Octets 44
-unfolding writeOf writeCheck refuse tailCheck walk walkBy fixedSize stampFits
+unfolding writeOf writeCheck refuse faultOf walk walkBy fixedSize stampFits
 taken-at-the-limits = refl
 
 pub transport-of-16 : writtenCode (writeOf 0xABCD (sync 16 0 0) [] (buffer 44)) ≡ 18
@@ -62,21 +62,21 @@ unfolding writeOf writeCheck refuse stampFits
 nanoseconds-of-a-second = refl
 
 pub tail-of-one-octet : writtenCode (writeOf 0xABCD (sync 0 0 0) (0 ∷ []) (buffer 45)) ≡ 18
-unfolding writeOf writeCheck refuse tailCheck walk walkBy nextOf be fixedSize stampFits
+unfolding writeOf writeCheck refuse faultOf walk walkBy nextOf be fixedSize stampFits
 tail-of-one-octet = refl
 
 -- a SLAVE_PRESENT with two octets of data
 pub slave-present-with-data : writtenCode (writeOf 0xABCD (sync 0 0 0) (0 ∷ 3 ∷ 0 ∷ 10 ∷ 0x08 ∷ 0 ∷ 0x30 ∷ 0xAB ∷ 0xCD ∷ 1 ∷ 0x10 ∷ 0 ∷ 0 ∷ 0 ∷ []) (buffer 58)) ≡ 18
-unfolding writeOf writeCheck refuse tailCheck walk walkBy nextOf be fixedSize stampFits misfitAt numbered HasForm dataOctets
+unfolding writeOf writeCheck refuse faultOf walk walkBy nextOf be fixedSize stampFits misfitAt numbered HasForm dataOctets
 slave-present-with-data = refl
 
 -- the same under another magic is no known message
 pub another-magic : writeOf 0xDEAD (sync 0 0 0) (0 ∷ 3 ∷ 0 ∷ 10 ∷ 0x08 ∷ 0 ∷ 0x30 ∷ 0xAB ∷ 0xCD ∷ 1 ∷ 0x10 ∷ 0 ∷ 0 ∷ 0 ∷ []) (buffer 58) ≡ Octets 58
-unfolding writeOf writeCheck refuse tailCheck walk walkBy nextOf be fixedSize stampFits misfitAt numbered HasForm
+unfolding writeOf writeCheck refuse faultOf walk walkBy nextOf be fixedSize stampFits misfitAt numbered HasForm
 another-magic = refl
 
 pub one-octet-short : writtenCode (writeOf 0xABCD (sync 0 0 0) [] (buffer 43)) ≡ 16
-unfolding writeOf writeCheck refuse tailCheck walk walkBy fixedSize stampFits
+unfolding writeOf writeCheck refuse faultOf walk walkBy fixedSize stampFits
 one-octet-short = refl
 
 -- 18 comes before 16

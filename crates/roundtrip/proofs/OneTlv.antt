@@ -12,7 +12,8 @@ use Rattle.octets.specs.Be.{be}
 use Rattle.octets.proofs.Laws.{be-octets}
 use Rattle.tlv.specs.Walk.{nextOf, sizeAt, broken, walk, first}
 use Rattle.tlv.specs.Form.{wrForm, HasForm, numberAt, dataOctets, isMisfit, numbered, misfitAt, isSuffix, suffixAt, isLink, linkAt}
-use Rattle.tlv.specs.Faults.{tailCheck}
+use Rattle.tlv.specs.Faults.{faultOf}
+use Rattle.tlv.specs.declared.walk.Fault.the-variants.{Sound}
 use Rattle.tlv.specs.declared.walk.Next.the-variants.{At}
 use Rattle.tlv.specs.declared.form.Numbered.the-variants.{Number}
 use Rattle.tlv.proofs.WalkLaws.{next-is, walk-end, walk-more}
@@ -65,8 +66,8 @@ module _ (magic number n : ℕ) (content : List ℕ) (hm : magic < 256 ^ 2) (hn 
   whole-one = one-step (length t) (λ (q : ℕ). q) (λ (q r : ℕ). r)
 
   -- no fault, where L is right
-  pub one-sound : isMisfit (dataOctets number) (8 + n) ≡ false → tailCheck magic t ≡ Done
-  unfolding tailCheck refuse misfitAt
+  pub one-sound : isMisfit (dataOctets number) (8 + n) ≡ false → faultOf magic t ≡ Sound
+  unfolding faultOf misfitAt
   one-sound e =
       let m : misfitAt magic t 0 ≡ false = rw (numbered-is, one-size) e in
       rw (whole-one, found (misfitAt magic t), m, eq-eqb (length t) (length t) refl)

@@ -15,7 +15,9 @@ use Rattle.refusal.proofs.Choice.{goes-on}
 use Rattle.refusal.specs.declared.Refusal.the-variants.{Field, Room}
 use Rattle.refusal.specs.declared.Outcome.{Outcome}
 use Rattle.refusal.specs.declared.Outcome.the-variants.{Done, Refused}
-use Rattle.tlv.specs.Faults.{tailCheck}
+use Rattle.tlv.specs.Faults.{faultOf}
+use Rattle.tlv.specs.declared.walk.Fault.{Fault}
+use Rattle.tlv.specs.declared.walk.Fault.the-variants.{Sound, Broken, Misfit}
 use Rattle.message.specs.Reading.{checkOf, by, readOf}
 use Rattle.message.specs.Parts.{tailIn}
 use Rattle.message.specs.declared.fields.Timestamp.{Timestamp}
@@ -77,10 +79,10 @@ module _ (magic : ℕ) (m : Message) (tail : List ℕ) where
   -- the checks of writing come down to two
   checked : (room : ℕ) → writeCheck magic m tail room ≡ refuse (unfit magic m tail) (Refused Field) (refuse (ltb room n) (Refused Room) Done)
   unfolding writeCheck refuse
-  checked room = cases (ltb (m .header .transport) 16) (bodyHeld (m .body)) (leb n 65535) (lateStamp (m .body)) (tailCheck magic tail) refl refl refl refl refl
+  checked room = cases (ltb (m .header .transport) 16) (bodyHeld (m .body)) (leb n 65535) (lateStamp (m .body)) (faultOf magic tail) refl refl refl refl refl
     where
-      cases : (a f k l : Bool) (o : Outcome) → ltb (m .header .transport) 16 ≡ a → bodyHeld (m .body) ≡ f → leb n 65535 ≡ k → lateStamp (m .body) ≡ l
-          → tailCheck magic tail ≡ o
+      cases : (a f k l : Bool) (o : Fault) → ltb (m .header .transport) 16 ≡ a → bodyHeld (m .body) ≡ f → leb n 65535 ≡ k → lateStamp (m .body) ≡ l
+          → faultOf magic tail ≡ o
           → writeCheck magic m tail room ≡ refuse (unfit magic m tail) (Refused Field) (refuse (ltb room n) (Refused Room) Done)
       cases false f k l o ea ef ek el eo = simp ea
       cases true false k l o ea ef ek el eo = simp (ea, stamp-split (m .body), ef)
@@ -88,9 +90,11 @@ module _ (magic : ℕ) (m : Message) (tail : List ℕ) where
       cases true true false false o ea ef ek el eo = simp (ea, stamp-split (m .body), ef, el, below 65535 n, ek)
       cases true true true true o ea ef ek el eo =
           simp (ea, stamp-split (m .body), ef, el, ek, written-check m tail [] (leb-true n 65535 ek) ef magic)
-      cases true true true false (Refused x) ea ef ek el eo =
+      cases true true true false (Broken p) ea ef ek el eo =
           simp (ea, stamp-split (m .body), ef, el, below 65535 n, ek, written-check m tail [] (leb-true n 65535 ek) ef magic, eo)
-      cases true true true false Done ea ef ek el eo =
+      cases true true true false (Misfit p) ea ef ek el eo =
+          simp (ea, stamp-split (m .body), ef, el, below 65535 n, ek, written-check m tail [] (leb-true n 65535 ek) ef magic, eo)
+      cases true true true false Sound ea ef ek el eo =
           simp (ea, stamp-split (m .body), ef, el, below 65535 n, ek, written-check m tail [] (leb-true n 65535 ek) ef magic, eo)
 
   -- the number of the answer is that of the checks

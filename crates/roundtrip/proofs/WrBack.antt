@@ -17,7 +17,8 @@ use Rattle.octets.specs.Be.{be, octetsOf}
 use Rattle.octets.proofs.Laws.{be-octets}
 use Rattle.tlv.specs.Form.{numberAt, dataOctets, isMisfit, isLink}
 use Rattle.tlv.specs.Numbers.{ANN-SUFIX}
-use Rattle.tlv.specs.Faults.{tailCheck}
+use Rattle.tlv.specs.Faults.{faultOf}
+use Rattle.tlv.specs.declared.walk.Fault.the-variants.{Sound}
 use Rattle.tlv.specs.Wr.{flagsAt, suffixIn, linkMessageAt, linkIn}
 use Rattle.tlv.specs.declared.form.Numbered.the-variants.{Number}
 use Rattle.tlv.specs.declared.wr.LinkMessage.{LinkMessage}
@@ -49,7 +50,7 @@ announcing h b = record { header = h; body = body.Announce b }
 
 module _ (magic : ℕ) (hm : magic < 256 ^ 2) where
   -- the suffix passes the checks
-  pub suffix-sound : (n : ℕ) → tailCheck magic (suffixOctets magic n) ≡ Done
+  pub suffix-sound : (n : ℕ) → faultOf magic (suffixOctets magic n) ≡ Sound
   unfolding dataOctets
   suffix-sound n = one-sound magic ANN-SUFIX 2 (octetsOf 2 (n % 16) []) hm (omega arith) refl refl (omega arith) refl
 
@@ -87,7 +88,7 @@ module _ (magic : ℕ) (hm : magic < 256 ^ 2) where
   of-link ModeOn = record { known = omega arith; count = refl; even = refl; most = omega arith; fits = refl; listed = refl }
 
   -- a link message passes the checks
-  pub link-sound : (x : LinkMessage) → tailCheck magic (linkOctets magic x) ≡ Done
+  pub link-sound : (x : LinkMessage) → faultOf magic (linkOctets magic x) ≡ Sound
   link-sound x =
       let o = of-link x in
       one-sound magic (linkNumber x) (linkSize x) (linkData x []) hm (o .known) (o .count) (o .even) (o .most) (o .fits)

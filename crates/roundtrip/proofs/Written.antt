@@ -15,9 +15,9 @@ use Rattle.refusal.specs.declared.Refusal.the-variants.{Stamp}
 use Rattle.refusal.specs.declared.Outcome.the-variants.{Refused}
 use Rattle.octets.specs.Be.{be}
 use Rattle.octets.proofs.Laws.{be-octets}
-use Rattle.tlv.specs.Faults.{tailCheck}
+use Rattle.tlv.specs.Faults.{faultOf}
 use Rattle.message.specs.Fields.{typeOf, versionOf, lengthOf, tailOf, messageOf}
-use Rattle.message.specs.Reading.{badStamp, checkOf}
+use Rattle.message.specs.Reading.{badStamp, faultCheck, checkOf}
 use Rattle.message.specs.declared.fields.Timestamp.{Timestamp}
 use Rattle.message.specs.declared.fields.Header.{Header}
 use Rattle.message.specs.declared.fields.Body.{Body}
@@ -91,7 +91,7 @@ module _ (m : Message) (tail rest : List ℕ) (long : sizeOf (m .body) + length 
       rw (written-type, written-length, behind, e, take-append-seam)
 
   -- the checks come down to those of the timestamp and of the tail
-  pub written-check : bodyHeld (m .body) ≡ true → (magic : ℕ) → checkOf magic s ≡ refuse (lateStamp (m .body)) (Refused Stamp) (tailCheck magic tail)
+  pub written-check : bodyHeld (m .body) ≡ true → (magic : ℕ) → checkOf magic s ≡ refuse (lateStamp (m .body)) (Refused Stamp) (faultCheck (sizeOf (m .body)) (faultOf magic tail))
   unfolding checkOf
   written-check f magic =
       rw (written-tail, written-version, written-type, written-length, written-stamp f, goes-on _ _ _ (le-ltb (length s) 34 (omega (arith, written-octets, least (m .body)))), goes-on _ _ _ (ne-eqb (sizeOf (m .body)) 0 (λ e. omega (arith, least (m .body)))), goes-on _ _ _ (le-ltb n (sizeOf (m .body)) (omega arith)), goes-on _ _ _ (le-ltb (length s) n (omega (arith, written-octets))))

@@ -7,14 +7,18 @@ use mathlib.Core.Bool.{Bool, true, false, not, _&&_}
 use lib.Dec.{eqb, ltb, leb}
 use lib.ListN.{length, set}
 use Rattle.refusal.specs.Choice.{pick}
+use Rattle.refusal.specs.declared.Outcome.{Outcome}
 use Rattle.message.specs.Fields.{typeOf, bodyOf}
-use Rattle.message.specs.Reading.{checkOf}
+use Rattle.message.specs.Reading.{checkOf, by}
 use Rattle.message.specs.declared.fields.Timestamp.{Timestamp}
 use Rattle.message.specs.declared.fields.Body.{Body}
 use Rattle.message.specs.declared.fields.Body.the-variants as body
 use Rattle.message.specs.declared.fields.Message.{Message}
 use Rattle.layout.specs.Layout.{controlOf, sizeOf, messageOctets}
-use Rattle.writer.specs.Writing.{isDone}
+
+-- the reading checks refuse nothing
+abbrev pub isDone : Outcome → Bool
+isDone x = by x (λ y. false) true
 
 -- "48-bit seconds, 32-bit nanoseconds"
 abbrev pub stampHeld : Timestamp → Bool

@@ -8,7 +8,7 @@ use lib.Dec.{ltb}
 use lib.ListN.{length}
 use borrow.Author.Tests.{ltb-true, ltb-false, lt-ltb, le-ltb}
 use Rattle.refusal.specs.Choice.{pick, refuse}
-use Rattle.refusal.specs.Refusal.{numberOf, codeOf}
+use Rattle.refusal.specs.Refusal.{numberOf, answerOf, codeOf}
 use Rattle.refusal.specs.declared.Refusal.{Refusal}
 use Rattle.refusal.specs.declared.Refusal.the-variants.{Backward, Stale, Full}
 use Rattle.senders.specs.declared.Notice.{Notice}
@@ -120,5 +120,5 @@ module _ (p : Port) (t : ℕ) (a : Notice) (size : length (p .slots) ≡ 16) whe
     λ h. never Full (intake.full-when p t a size (h .0) (h .1) (h .2)) (omega arith),
   )
     where
-      never : (x : Refusal) → planOf p t a ≡ Refuse x → 0 < numberOf x → ⊥
-      never x f some = let z : 0 ≡ numberOf x = sym e ∙ ap (λ (q : Plan). codeOf (outcomeOf q)) f in omega arith
+      never : (x : Refusal) → planOf p t a ≡ Refuse x → 0 < answerOf x → ⊥
+      never x f some = let z : 0 ≡ answerOf x = sym e ∙ ap (λ (q : Plan). codeOf (outcomeOf q)) f in omega arith

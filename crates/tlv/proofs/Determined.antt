@@ -23,6 +23,9 @@ form-is-suffix-determined κs a x y v w p q = (p ∙ sym q, refl)
 pub form-is-link-determined : Fixes its.form.is_link.ended its.form.is_link.Reads.Post
 form-is-link-determined κs a x y v w p q = (p ∙ sym q, refl)
 
+pub walk-step-determined : Fixes its.walk.step.ended its.walk.step.Reads.Post
+walk-step-determined κs a x y v w p q = (p ∙ sym q, refl)
+
 pub walk-place-determined : Fixes its.walk.place.ended its.walk.place.Reads.Post
 walk-place-determined κs a x y v w p q = (p ∙ sym q, refl)
 
@@ -40,9 +43,6 @@ walk-sound-place-determined κs a x y v w p q = (p ∙ sym q, refl)
 
 pub walk-sound-suffix-determined : Fixes its.walk.sound_suffix.ended its.walk.sound_suffix.Reads.Post
 walk-sound-suffix-determined κs a x y v w p q = (p ∙ sym q, refl)
-
-pub walk-check-determined : Fixes its.walk.check.ended its.walk.check.Reads.Post
-walk-check-determined κs a x y v w p q = (p ∙ sym q, refl)
 
 pub wr-suffix-at-determined : Fixes its.wr.suffix_at.ended its.wr.suffix_at.Reads.Post
 wr-suffix-at-determined κs a x y v w p q = (p ∙ sym q, refl)

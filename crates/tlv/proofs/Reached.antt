@@ -1,22 +1,25 @@
 -- Found means reached: what a search finds is a TLV that the walk comes to, and the first that passes the test; nothing is
--- found exactly where no TLV passes it; and a tail is whole exactly where the walk comes to its end.
-use Prim.Native.Nat.{ℕ, _<_, _≤_}
-use mathlib.Core.Path.{_≡_, refl, sym, _∙_}
+-- found exactly where no TLV passes it; a tail is whole exactly where the walk comes to its end, and else breaks off where the
+-- walk can go no further.
+use Prim.Native.Nat.{ℕ, _+_, _%_, _<_, _≤_}
+use mathlib.Core.Path.{_≡_, refl, sym, ap, _∙_}
 use mathlib.Core.List.{List}
 use mathlib.Core.Bool.{Bool, true, false}
 use mathlib.Core.Logic.{_⊎_, inl, inr}
 use native.Mathlib.Omega.{arith}
-use borrow.Author.Tests.{eq-eqb, eqb-true, lt-ltb, le-ltb, ltb-true, ltb-false}
-use lib.Dec.{ltb}
-use lib.ListN.{length}
+use borrow.Author.Tests.{eq-eqb, ne-eqb, eqb-true, eqb-false, lt-ltb, le-ltb, ltb-true, ltb-false, leb-true, leb-false}
+use lib.Dec.{eqb, leb, ltb}
+use lib.ListN.{length, take, length-take}
+use Rattle.octets.proofs.Laws.{be-take}
 use Rattle.refusal.specs.Choice.{pick}
-use Rattle.tlv.specs.Walk.{broken, first, Reached, start, next, TlvAt, FirstTlv, NoTlv}
+use Rattle.tlv.specs.Walk.{sizeAt, nextOf, broken, first, Reached, start, next, BadAt, leftover, odd, past, BreaksAt, TlvAt, FirstTlv, NoTlv}
+use Rattle.tlv.specs.declared.walk.Next.the-variants.{At, Bad}
 use Rattle.tlv.specs.Form.{suffixAt, linkAt}
 use Rattle.tlv.specs.Faults.{whole}
 use Rattle.tlv.specs.Wr.{flagsAt, suffixIn, linkMessageAt, linkIn}
 use Rattle.tlv.specs.declared.wr.Suffix.the-variants as suffix
 use Rattle.tlv.specs.declared.wr.LinkFound.the-variants as found
-use Rattle.tlv.proofs.WalkLaws.{walk-end, walk-bad, walk-more, walk-ind, first-found, first-before}
+use Rattle.tlv.proofs.WalkLaws.{next-short, next-odd, next-long, next-fits, next-even, next-is, walk-end, walk-bad, walk-more, walk-ind, first-found, first-before}
 
 no-truth : _≡_ {A = Bool} false true → ⊥
 no-truth e = let z : _≡_ {A = ℕ} 0 1 = cc in omega arith
@@ -127,6 +130,83 @@ module _ (t : List ℕ) where
 
   pub whole-reached : whole t ≡ true → Reached t (length t)
   whole-reached e = ends (eqb-true _ _ e)
+
+-- ---- broken
+module _ (t : List ℕ) where
+  odd-one : (n : ℕ) → (n % 2 ≡ 0 → ⊥) → n % 2 ≡ 1
+  odd-one n h = omega arith
+
+  no-at : {q : ℕ} → At q ≡ Bad → ⊥
+  no-at e = let z : _≡_ {A = ℕ} 0 1 = cc in omega arith
+
+  -- where the walk cannot step, one of three things stands
+  no-step : (p : ℕ) → p < length t → nextOf t p ≡ Bad → BadAt t p
+  unfolding nextOf
+  no-step p l = by (leb (p + 4) (length t)) (eqb (sizeAt t p % 2) 0) (leb (p + 4 + sizeAt t p) (length t)) refl refl refl
+    where
+      by : (a b d : Bool) → leb (p + 4) (length t) ≡ a → eqb (sizeAt t p % 2) 0 ≡ b → leb (p + 4 + sizeAt t p) (length t) ≡ d
+          → nextOf t p ≡ Bad → BadAt t p
+      by false b d ea eb ed e = leftover l (leb-false (p + 4) (length t) ea)
+      by true false d ea eb ed e =
+          let n = eqb-false (sizeAt t p % 2) 0 eb in odd (leb-true (p + 4) (length t) ea) (odd-one (sizeAt t p) n)
+      by true true false ea eb ed e =
+          past (leb-true (p + 4) (length t) ea) (eqb-true (sizeAt t p % 2) 0 eb) (leb-false (p + 4 + sizeAt t p) (length t) ed)
+      by true true true ea eb ed e = absurd (no-at (rw (ea, eb, ed) at e))
+
+  -- and where one of them stands, it cannot
+  pub bad-inside : {p : ℕ} → BadAt t p → p < length t
+  bad-inside (leftover l h) = l
+  bad-inside (odd l h) = omega arith
+  bad-inside (past l e h) = omega arith
+
+  bad-step : {p : ℕ} → BadAt t p → nextOf t p ≡ Bad
+  bad-step {p} (leftover l h) = next-short t p h
+  bad-step {p} (odd l h) = next-odd t p l (λ e. omega (arith, e, h))
+  bad-step {p} (past l e h) = next-long t p l e h
+
+  -- A TAIL THAT IS NOT WHOLE BREAKS OFF AT THE PLACE TOLD
+  breaks : (broken t 0 ≡ length t → ⊥) → BreaksAt t (broken t 0)
+  breaks =
+      walk-ind t (λ (p : ℕ). Reached t p → (broken t p ≡ length t → ⊥) → BreaksAt t (broken t p))
+      (λ r n. absurd (n (walk-end (length t) (λ (q : ℕ). q) (λ (q r : ℕ). r) t)))
+      (λ p l b r. rw (walk-bad (length t) (λ (q : ℕ). q) (λ (q r : ℕ). r) t p l b) (λ n. record { reached = r; bad = no-step p l b }))
+      (λ p q l m k r. rw (walk-more (length t) (λ (q : ℕ). q) (λ (q r : ℕ). r) t p q l m) (k (next r l m)))
+      0 (omega arith) start
+
+  pub whole-breaks : whole t ≡ false → BreaksAt t (broken t 0)
+  whole-breaks e = breaks (eqb-false _ _ e)
+
+  -- and there is no other such place
+  pub breaks-is : {p : ℕ} → BreaksAt t p → broken t 0 ≡ p
+  breaks-is {p} v =
+      same-broken t (v .reached) ∙ walk-bad (length t) (λ (q : ℕ). q) (λ (q r : ℕ). r) t p (bad-inside (v .bad)) (bad-step (v .bad))
+
+  pub breaks-whole : {p : ℕ} → BreaksAt t p → whole t ≡ false
+  breaks-whole {p} v = ne-eqb (broken t 0) (length t) (λ e. let b = breaks-is v in let h = bad-inside (v .bad) in omega arith)
+
+-- the walk stays inside
+pub reached-inside : (t : List ℕ) {p : ℕ} → Reached t p → p ≤ length t
+reached-inside t start = omega arith
+reached-inside t (next {p} r l m) = next-fits t p m .1
+
+-- ---- what stands before a place
+module _ (t : List ℕ) (k : ℕ) (h : k ≤ length t) where
+  cut-length : length (take k t) ≡ k
+  cut-length = simp length-take (omega arith)
+
+  -- THE WALK OVER A TAIL THAT IS CUT comes to the same places, up to the cut
+  pub reached-cut : {p : ℕ} → Reached t p → p ≤ k → Reached (take k t) p
+  reached-cut start l = start
+  reached-cut (next {p} {q} r i m) l =
+      let f = next-fits t p m in
+      let s : sizeAt (take k t) p ≡ sizeAt t p = be-take 2 k t (p + 2) (omega arith) in
+      let n = cut-length in
+      let e : sizeAt (take k t) p % 2 ≡ 0 = rw s (next-even t p m) in
+      let q-is : p + 4 + sizeAt (take k t) p ≡ q = omega arith in
+      next (reached-cut r (omega arith)) (omega arith) (next-is (take k t) p (omega arith) e (omega arith) ∙ ap At q-is)
+
+  pub whole-cut : Reached t k → whole (take k t) ≡ true
+  whole-cut r = let n = cut-length in reached-whole (take k t) (rw n (reached-cut r (omega arith)))
 
 -- ---- the suffix and the link message that count
 module _ (magic : ℕ) (t : List ℕ) where

@@ -36,8 +36,8 @@ module _ (t : List ℕ) (p : ℕ) where
       simp (le-leb (p + 4) (length t) h, eq-eqb (sizeAt t p % 2) 0 o, le-leb (p + 4 + sizeAt t p) (length t) l)
 
 -- the three tests of `nextOf`, all taken where it gives an end
-taken : (a b c : Bool) (x q : ℕ) → pick a (pick b (pick c (At x) Bad) Bad) Bad ≡ At q → (c ≡ true) × (x ≡ q)
-taken true true true x q h = (refl, cc)
+taken : (a b c : Bool) (x q : ℕ) → pick a (pick b (pick c (At x) Bad) Bad) Bad ≡ At q → (b ≡ true) × (c ≡ true) × (x ≡ q)
+taken true true true x q h = (refl, refl, cc)
 taken true true false x q h = absurd (let z : _≡_ {A = ℕ} 0 1 = cc in omega arith)
 taken true false c x q h = absurd (let z : _≡_ {A = ℕ} 0 1 = cc in omega arith)
 taken false b c x q h = absurd (let z : _≡_ {A = ℕ} 0 1 = cc in omega arith)
@@ -46,7 +46,14 @@ pub next-fits : (t : List ℕ) (p : ℕ) {q : ℕ} → nextOf t p ≡ At q → (
 unfolding nextOf
 next-fits t p {q} h =
     let k = taken (leb (p + 4) (length t)) (eqb (sizeAt t p % 2) 0) (leb (p + 4 + sizeAt t p) (length t)) (p + 4 + sizeAt t p) q h in
-    (k .1, rw (k .1) at (leb-true (p + 4 + sizeAt t p) (length t) (k .0)))
+    (k .2, rw (k .2) at (leb-true (p + 4 + sizeAt t p) (length t) (k .1)))
+
+-- and of even length
+pub next-even : (t : List ℕ) (p : ℕ) {q : ℕ} → nextOf t p ≡ At q → sizeAt t p % 2 ≡ 0
+unfolding nextOf
+next-even t p {q} h =
+    let k = taken (leb (p + 4) (length t)) (eqb (sizeAt t p % 2) 0) (leb (p + 4 + sizeAt t p) (length t)) (p + 4 + sizeAt t p) q h in
+    eqb-true (sizeAt t p % 2) 0 (k .0)
 
 -- a TLV that the walk steps over is whole
 pub next-whole : (t : List ℕ) (p : ℕ) {q : ℕ} → nextOf t p ≡ At q → Fits t p

@@ -1,13 +1,10 @@
 -- What a walk looks for, and the faults of a tail (01, "Numbers that refuse", 6 and 7).
 use Prim.Native.Nat.{ℕ}
 use mathlib.Core.List.{List}
-use mathlib.Core.Bool.{Bool, not, _&&_}
+use mathlib.Core.Bool.{Bool, true, false, _&&_}
 use lib.ListN.{length}
 use lib.Dec.{eqb, ltb}
-use Rattle.refusal.specs.Choice.{pick, refuse}
-use Rattle.refusal.specs.declared.Refusal.the-variants.{Tlv, WrBad}
-use Rattle.refusal.specs.declared.Outcome.{Outcome}
-use Rattle.refusal.specs.declared.Outcome.the-variants.{Done, Refused}
+use Rattle.refusal.specs.Choice.{pick}
 use Rattle.tlv.specs.Walk.{typeAt, broken, first}
 use Rattle.tlv.specs.Form.{misfitAt, suffixAt, linkAt}
 use Rattle.tlv.specs.declared.walk.Sought.{Sought}
@@ -31,24 +28,17 @@ whole t = eqb (broken t 0) (length t)
 abbrev pub misfit : ℕ → List ℕ → ℕ → ℕ
 misfit magic t p = first (misfitAt magic t) t p
 
--- "6, 7"
-unfoldable pub tailCheck : ℕ → List ℕ → Outcome
-tailCheck magic t =
-    refuse (not (whole t)) (Refused Tlv)
-    (refuse (not (eqb (misfit magic t 0) (length t))) (Refused WrBad)
-    Done)
-
--- the same with its place
+-- "6, 7", with the place "of the first TLV with that fault or of a leftover of one to three octets"
 unfoldable pub faultOf : ℕ → List ℕ → Fault
 faultOf magic t =
     pick (whole t)
     (pick (eqb (misfit magic t 0) (length t)) fault.Sound (fault.Misfit (misfit magic t 0)))
     (fault.Broken (broken t 0))
 
-abbrev pub outcomeOf : Fault → Outcome
-outcomeOf fault.Sound = Done
-outcomeOf (fault.Broken p) = Refused Tlv
-outcomeOf (fault.Misfit p) = Refused WrBad
+abbrev pub isFault : Fault → Bool
+isFault fault.Sound = false
+isFault (fault.Broken p) = true
+isFault (fault.Misfit p) = true
 
 -- nothing is wrong with a tail
 unfoldable pub isSound : ℕ → List ℕ → Bool

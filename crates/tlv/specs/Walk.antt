@@ -66,6 +66,20 @@ pub data Reached (t : List ℕ) : ℕ → Type 0 where
   start : Reached t 0
   next : {p q : ℕ} → Reached t p → p < length t → nextOf t p ≡ At q → Reached t q
 
+-- before the end, no whole TLV of even length stands at p
+pub data BadAt (t : List ℕ) (p : ℕ) : Type 0 where
+  -- "a leftover of one to three octets"
+  leftover : p < length t → length t < p + 4 → BadAt t p
+  -- its length is odd
+  odd : p + 4 ≤ length t → sizeAt t p % 2 ≡ 1 → BadAt t p
+  -- or runs past the end
+  past : p + 4 ≤ length t → sizeAt t p % 2 ≡ 0 → length t < p + 4 + sizeAt t p → BadAt t p
+
+-- the walk comes to p, over whole TLVs of even length, and no further
+pub record BreaksAt (t : List ℕ) (p : ℕ) : Type 0 where
+  pub reached : Reached t p
+  pub bad : BadAt t p
+
 -- a TLV of the tail stands at p: the walk comes to it and steps over it
 pub record TlvAt (t : List ℕ) (p : ℕ) : Type 0 where
   pub reached : Reached t p

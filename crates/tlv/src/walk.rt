@@ -4,10 +4,8 @@ ghost use Prim.Native.Nat.{_≤_};
 ghost use lib.ListN.{length};
 ghost use Rattle.tlv.specs.Walk.{nextOf, first, dataAt, Fits};
 ghost use Rattle.tlv.specs.Form.{suffixAt};
-ghost use Rattle.tlv.specs.Faults.{soughtAt, laterOf, faultOf, isSound, soundOf, tailCheck, outcomeOf};
+ghost use Rattle.tlv.specs.Faults.{soughtAt, laterOf, faultOf, isSound, soundOf};
 use crate::form;
-use refusal::Outcome;
-use refusal::Refusal;
 
 // Where a TLV ends, or that no whole TLV of even length stands there.
 pub enum Next {
@@ -37,7 +35,8 @@ pub enum Sound {
     Faulty,
 }
 
-fn step(t: &[u8], at: usize) -> Next
+// What stands at a place: a TLV, or none.
+pub fn step(t: &[u8], at: usize) -> Next
     requires { ⌜ at ≤ length (now t) ⌝ }
     ensures { λ r. ⌜ r ≡ nextOf (now (t .entry)) at ⌝ }
 {
@@ -194,22 +193,4 @@ pub fn sound_suffix(t: &[u8], magic: u16) -> Sound
         at = p;
     }
     Sound::FirstAt(suffix)
-}
-
-// The number alone of a fault.
-fn outcome_of(x: Fault) -> Outcome
-    ensures { λ r. ⌜ r ≡ outcomeOf x ⌝ }
-{
-    match x {
-        Fault::Sound => Outcome::Done,
-        Fault::Broken(_) => Outcome::Refused(Refusal::Tlv),
-        Fault::Misfit(_) => Outcome::Refused(Refusal::WrBad),
-    }
-}
-
-// The checks of a tail: 6, then 7.
-pub fn check(t: &[u8], magic: u16) -> Outcome
-    ensures { λ r. ⌜ r ≡ tailCheck magic (now (t .entry)) ⌝ }
-{
-    outcome_of(first_fault(t, magic))
 }

@@ -1,16 +1,16 @@
 -- Writing: the checks in their order, the answer, and the buffer at exit (01, "Numbers that refuse").
 use Prim.Native.Nat.{ℕ, _+_, _^_}
 use mathlib.Core.List.{List}
-use mathlib.Core.Bool.{Bool, true, false, not, _&&_}
+use mathlib.Core.Bool.{Bool, true, not, _&&_}
 use lib.Dec.{eqb, ltb}
 use lib.ListN.{length, drop}
 use Rattle.refusal.specs.Limits.{secondNanos}
 use Rattle.refusal.specs.Choice.{refuse}
-use Rattle.refusal.specs.Refusal.{numberOf}
+use Rattle.refusal.specs.Refusal.{answerOf}
 use Rattle.refusal.specs.declared.Refusal.the-variants.{Field, Room}
 use Rattle.refusal.specs.declared.Outcome.{Outcome}
 use Rattle.refusal.specs.declared.Outcome.the-variants as outcome
-use Rattle.tlv.specs.Faults.{tailCheck}
+use Rattle.tlv.specs.Faults.{faultOf, isFault}
 use Rattle.message.specs.Fields.{fixedSize}
 use Rattle.message.specs.Reading.{by}
 use Rattle.message.specs.declared.fields.Timestamp.{Timestamp}
@@ -34,10 +34,6 @@ bodyFits (body.DelayResp r) = stampFits (r .receive)
 bodyFits (body.Announce a) = stampFits (a .origin)
 bodyFits (body.Signaling p) = true
 
--- the checks of a tail, 6 and 7, find nothing
-abbrev pub isDone : Outcome → Bool
-isDone x = by x (λ y. false) true
-
 -- "Writing: 18, 16"; 18: "a value to write doesn't fit its field or would be refused when read, the length would pass
 -- 65,535"; 16: "output buffer smaller than the message"
 unfoldable pub writeCheck : ℕ → Message → List ℕ → ℕ → Outcome
@@ -45,7 +41,7 @@ writeCheck magic m tail room =
     refuse (not (ltb (m .header .transport) 16)) (outcome.Refused Field)
     (refuse (not (bodyFits (m .body))) (outcome.Refused Field)
     (refuse (ltb 65535 (sizeOf (m .body) + length tail)) (outcome.Refused Field)
-    (refuse (not (isDone (tailCheck magic tail))) (outcome.Refused Field)
+    (refuse (isFault (faultOf magic tail)) (outcome.Refused Field)
     (refuse (ltb room (sizeOf (m .body) + length tail)) (outcome.Refused Room)
     outcome.Done))))
 
@@ -57,7 +53,7 @@ writeOf magic m tail out =
 -- this page's number of the answer, 0 where nothing is refused
 abbrev pub writtenCode : Written → ℕ
 writtenCode (written.Octets n) = 0
-writtenCode (written.Refused x) = numberOf x
+writtenCode (written.Refused x) = answerOf x
 
 -- the buffer at exit: "octets past the message stay"; a refusal leaves the whole buffer as it was
 unfoldable pub bufferOf : ℕ → Message → List ℕ → List ℕ → List ℕ

@@ -1,4 +1,4 @@
-//! Reading a message from octets, and the calls that look for one TLV in it.
+//! Reading a message from octets, and the calls that look at the TLVs in it.
 //! Every call here makes all reading checks, in document 01's order.
 
 use super::message::{
@@ -6,7 +6,7 @@ use super::message::{
 };
 use super::octets::{number_at, u16_at, u32_at, u64_at};
 use super::refusal::{refuse_if, Refusal};
-use super::tlv::{tlvs_of, Tlv};
+use super::tlv::{walk_tail, Tlv};
 use super::white_rabbit::{check_sizes, first_link_message, first_suffix, LinkMessage};
 
 /// PTP version 2, the only one read.
@@ -36,7 +36,7 @@ fn check(lent: &[u8], magic: u16) -> Result<Checked<'_>, Refusal> {
     let stamp_bad = message_type.has_timestamp() && u32_at(octets, NANOSECONDS_AT) >= SECOND;
     refuse_if(stamp_bad, Refusal::Stamp)?;
     let tail_at = message_type.fixed_size();
-    let tlvs = tlvs_of(&octets[tail_at..])?;
+    let tlvs = walk_tail(octets, tail_at)?;
     check_sizes(&tlvs, magic)?;
     Ok(Checked {
         message_type,
@@ -56,12 +56,18 @@ pub fn read(lent: &[u8], magic: u16) -> Result<Message<'_>, Refusal> {
     })
 }
 
+/// All TLVs of the message's tail, in their order, each with its place in the
+/// message.
+pub fn walk(lent: &[u8], magic: u16) -> Result<Vec<Tlv<'_>>, Refusal> {
+    Ok(check(lent, magic)?.tlvs)
+}
+
 /// The data of the first TLV of a type, with the place in the message where
 /// they begin; nothing where the message has no such TLV.
 pub fn look_up(lent: &[u8], tlv_type: u16, magic: u16) -> Result<Option<(usize, &[u8])>, Refusal> {
     let checked = check(lent, magic)?;
     let first = checked.tlvs.iter().find(|tlv| tlv.tlv_type == tlv_type);
-    Ok(first.map(|tlv| (checked.tail_at + tlv.data_at, tlv.data)))
+    Ok(first.map(|tlv| (tlv.data_at(), tlv.data)))
 }
 
 /// wrFlags of an Announce's first suffix; nothing where it has none.

@@ -1,32 +1,68 @@
-//! The numbers that refuse, by the names of document 01's table.
+//! The numbers that refuse, by the names of document 01's table, and the place
+//! in the message that document 02, (i), adds to two of them.
 
-/// Why a call is refused; the value of each is its number in the table.
+/// Why a call is refused.
 #[derive(Clone, Copy, Debug, PartialEq, Eq)]
 pub enum Refusal {
-    Short = 1,
-    Version = 2,
-    Type = 3,
-    Length = 4,
-    Stamp = 5,
-    Tlv = 6,
-    WrBad = 7,
-    Port = 8,
-    Domain = 9,
-    Own = 10,
-    Backward = 11,
-    Stale = 12,
-    Full = 13,
-    Range = 14,
-    Unranked = 15,
-    Room = 16,
-    Many = 17,
-    Field = 18,
+    Short,
+    Version,
+    Type,
+    Length,
+    Stamp,
+    /// `at` is where the first TLV begins that is not whole or not of even
+    /// length, or the octets that are too few for one.
+    Tlv {
+        at: usize,
+    },
+    /// `at` is where the first TLV begins whose White Rabbit message has a
+    /// wrong size.
+    WrBad {
+        at: usize,
+    },
+    Port,
+    Domain,
+    Own,
+    Backward,
+    Stale,
+    Full,
+    Range,
+    Unranked,
+    Room,
+    Many,
+    Field,
 }
 
 impl Refusal {
     /// The number of the table.
     pub fn number(self) -> u8 {
-        self as u8
+        match self {
+            Refusal::Short => 1,
+            Refusal::Version => 2,
+            Refusal::Type => 3,
+            Refusal::Length => 4,
+            Refusal::Stamp => 5,
+            Refusal::Tlv { .. } => 6,
+            Refusal::WrBad { .. } => 7,
+            Refusal::Port => 8,
+            Refusal::Domain => 9,
+            Refusal::Own => 10,
+            Refusal::Backward => 11,
+            Refusal::Stale => 12,
+            Refusal::Full => 13,
+            Refusal::Range => 14,
+            Refusal::Unranked => 15,
+            Refusal::Room => 16,
+            Refusal::Many => 17,
+            Refusal::Field => 18,
+        }
+    }
+
+    /// Where the fault sits, for the two refusals that tell it.
+    pub fn at(self) -> Option<usize> {
+        match self {
+            Refusal::Tlv { at } | Refusal::WrBad { at } => Some(at),
+            _ => None,
+        }
     }
 }
 

@@ -120,13 +120,18 @@ fn known_message<'a>(tlv: &Tlv<'a>, magic: u16) -> Option<(u16, &'a [u8])> {
     data_size(number).map(|_| (number, &tlv.data[PREFIX..]))
 }
 
-/// Refuses a run of TLVs in which a known message has a wrong data size.
+/// Refuses a run of TLVs at the first in which a known message has a wrong data
+/// size.
 pub fn check_sizes(tlvs: &[Tlv], magic: u16) -> Result<(), Refusal> {
-    let wrong = tlvs
-        .iter()
-        .filter_map(|tlv| known_message(tlv, magic))
-        .any(|(number, data)| data_size(number) != Some(data.len()));
-    super::refusal::refuse_if(wrong, Refusal::WrBad)
+    match tlvs.iter().find(|tlv| has_wrong_size(tlv, magic)) {
+        Some(tlv) => Err(Refusal::WrBad { at: tlv.at }),
+        None => Ok(()),
+    }
+}
+
+/// Whether a TLV holds a known message with a wrong data size.
+fn has_wrong_size(tlv: &Tlv, magic: u16) -> bool {
+    known_message(tlv, magic).is_some_and(|(number, data)| data_size(number) != Some(data.len()))
 }
 
 /// wrFlags of the first ANN_SUFIX, reserved bits left out.  The sizes have been

@@ -6,7 +6,7 @@ use super::message::{
 };
 use super::octets::push_number;
 use super::refusal::{refuse_if, Refusal};
-use super::tlv::tlvs_of;
+use super::tlv::walk_tail;
 use super::white_rabbit::{check_sizes, link_message_tlv, LinkMessage};
 
 /// The greatest messageLength.
@@ -67,7 +67,7 @@ fn timestamp_fits(stamp: &Timestamp) -> bool {
 /// Whether reading would find whole even TLVs and no White Rabbit message of a
 /// wrong size.
 fn tail_would_be_read(tail: &[u8], magic: u16) -> bool {
-    tlvs_of(tail).is_ok_and(|tlvs| check_sizes(&tlvs, magic).is_ok())
+    walk_tail(tail, 0).is_ok_and(|tlvs| check_sizes(&tlvs, magic).is_ok())
 }
 
 /// The octets of a message whose values all fit their fields.

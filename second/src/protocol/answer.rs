@@ -16,7 +16,7 @@ use crate::engine::delay::{measure, Exchange, Stamp};
 use crate::engine::message::{Message, MessageType};
 use crate::engine::origin::origin;
 use crate::engine::ranking::{merge, rank};
-use crate::engine::reading::{look_up, read, read_link_message, read_suffix};
+use crate::engine::reading::{look_up, read, read_link_message, read_suffix, walk};
 use crate::engine::refusal::Refusal;
 use crate::engine::white_rabbit::suffix_tlv;
 use crate::engine::writing::{write, write_signaling};
@@ -55,6 +55,7 @@ fn call(clock: &mut Clock, mut tokens: Tokens) -> Option<String> {
         b"lookup" => answer_lookup(clock, tokens),
         b"suffix" => answer_suffix(clock, tokens),
         b"linkmessage" => answer_link_message(clock, tokens),
+        b"walk" => answer_walk(clock, tokens),
         b"write" => answer_write(clock, tokens),
         b"suffixtlv" => answer_suffix_tlv(clock, tokens),
         b"signal" => answer_signal(clock, tokens),
@@ -77,9 +78,13 @@ fn call(clock: &mut Clock, mut tokens: Tokens) -> Option<String> {
     }
 }
 
-/// A refusal's answer.
+/// A refusal's answer: its number, and behind it the place where it has one.
 fn refused(refusal: Refusal) -> String {
-    format!("refused {}", refusal.number())
+    let number = refusal.number();
+    match refusal.at() {
+        Some(at) => format!("refused {number} {at}"),
+        None => format!("refused {number}"),
+    }
 }
 
 /// The answer of a call that finds something, finds nothing or is refused.
@@ -165,6 +170,16 @@ fn answer_link_message(clock: &Clock, mut tokens: Tokens) -> Option<String> {
     tokens.end()?;
     let result = read_link_message(&octets, clock.magic);
     Some(found(result, show::link_message))
+}
+
+/// `walk OCTETS`
+fn answer_walk(clock: &Clock, mut tokens: Tokens) -> Option<String> {
+    let octets = tokens.octets()?;
+    tokens.end()?;
+    Some(match walk(&octets, clock.magic) {
+        Ok(tlvs) => format!("ok {}", show::tlvs(&tlvs)),
+        Err(refusal) => refused(refusal),
+    })
 }
 
 /// `write ROOM TYPE TRANSPORT DOMAIN FLAGS CORRECTION CLOCK PORT SEQUENCE

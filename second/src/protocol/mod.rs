@@ -11,3 +11,5 @@ pub mod tokens;
 mod worked_lines;
 #[cfg(test)]
 mod worked_rows;
+#[cfg(test)]
+mod worked_tails;

@@ -8,6 +8,7 @@ use crate::engine::decision::Decision;
 use crate::engine::link::{LinkState, Step};
 use crate::engine::message::{Announce, Body, Header, Message, PortIdentity, Timestamp};
 use crate::engine::senders::{Record, Senders};
+use crate::engine::tlv::Tlv;
 use crate::engine::white_rabbit::LinkMessage;
 
 /// Octets.
@@ -92,6 +93,15 @@ fn announce(fields: &Announce) -> String {
         fields.steps_removed,
         fields.time_source
     )
+}
+
+/// A count, then AT TYPE LENGTH of that many TLVs.
+pub fn tlvs(tlvs: &[Tlv]) -> String {
+    let mut text = tlvs.len().to_string();
+    for tlv in tlvs {
+        text.push_str(&format!(" {} {} {}", tlv.at, tlv.tlv_type, tlv.data.len()));
+    }
+    text
 }
 
 /// A link message's number and values.

@@ -42,7 +42,7 @@ fn row_2_an_odd_length_is_refused() {
     let odd = SUFFIX.replace("000a", "0009");
     assert_eq!(
         only(&format!("suffix {}", announce(1, 0, &odd))),
-        "refused 6"
+        "refused 6 64"
     );
 }
 
@@ -197,6 +197,9 @@ fn the_protocols_own_examples() {
     assert_eq!(only("parent 0"), "none");
     assert_eq!(only("read 0b02"), "refused 1");
     assert_eq!(only("read 0b02 "), "bad line");
+    let walk = |length: &str| only(&format!("walk 0c020030{:080}0008{length}", 0));
+    assert_eq!(walk("0000"), "ok 1 44 8 0");
+    assert_eq!(walk("0001"), "refused 6 44");
     assert_eq!(
         answers(&["", "# fresh", "fresh", " fresh"]),
         ["ok", "bad line"]

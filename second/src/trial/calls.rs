@@ -13,6 +13,7 @@ pub enum Call {
     Lookup,
     Suffix,
     LinkMessage,
+    Walk,
     Write,
     SuffixTlv,
     Signal,
@@ -34,7 +35,7 @@ pub enum Call {
 }
 
 /// Every call with its name.
-pub const CALLS: [(&str, Call); 27] = [
+pub const CALLS: [(&str, Call); 28] = [
     ("fresh", Call::Fresh),
     ("clock", Call::Clock),
     ("domain", Call::Domain),
@@ -44,6 +45,7 @@ pub const CALLS: [(&str, Call); 27] = [
     ("lookup", Call::Lookup),
     ("suffix", Call::Suffix),
     ("linkmessage", Call::LinkMessage),
+    ("walk", Call::Walk),
     ("write", Call::Write),
     ("suffixtlv", Call::SuffixTlv),
     ("signal", Call::Signal),

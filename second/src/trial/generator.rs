@@ -150,6 +150,7 @@ impl Generator {
             Call::Lookup => reading::lookup_line(random, magic),
             Call::Suffix => reading::suffix_line(random, magic),
             Call::LinkMessage => reading::link_message_line(random, magic),
+            Call::Walk => reading::walk_line(random, magic),
             Call::Write => write_line(random, magic),
             Call::SuffixTlv => suffix_tlv_line(random),
             Call::Signal => signal_line(random),
@@ -224,6 +225,23 @@ mod tests {
         assert_often(&signal, 100, &kinds);
         let suffix = answers_of("suffixtlv", "suffixtlv", 2000);
         assert_often(&suffix, 50, &["0120000000", "0120000007", "012000000f"]);
+    }
+
+    #[test]
+    fn bad_tails_come_often_and_at_every_place() {
+        for call in ["read", "lookup", "suffix", "linkmessage", "walk", "origin"] {
+            let answers = answers_of(call, call, 6000);
+            for number in [6, 7] {
+                for at in [44, 54, 64] {
+                    assert_often(&answers, 4, &[&format!("refused {number} {at}")]);
+                }
+                assert_often(&answers, 600, &[&format!("refused {number} ")]);
+            }
+        }
+        let take = answers_of("take", "take", 6000);
+        assert_often(&take, 100, &["refused 6 64", "refused 7 64"]);
+        let walk = answers_of("walk", "walk", 6000);
+        assert_often(&walk, 100, &["ok 0", "ok 1 44 ", "ok 2 ", "ok 6 "]);
     }
 
     #[test]

@@ -46,8 +46,10 @@ fn take_line(random: &mut Random, clock: &Clock) -> Vec<u8> {
     let senders = senders_of(clock, port);
     let time = time_to_take(random, senders);
     let mut draft = announcement(random, clock, senders);
-    if random.chance(1, 5) {
-        draft.weather(random, clock.magic);
+    match random.below(20) {
+        0..=3 => draft.weather(random, clock.magic),
+        4 | 5 => draft.give_bad_tail(random, clock.magic),
+        _ => {}
     }
     line_of_take(random, port, time, &draft)
 }

@@ -45,12 +45,14 @@ fn kind_of(vector: &Vector) -> String {
     };
     let words: Vec<&str> = answer.split(' ').collect();
     match (call_of(&vector.line).as_str(), words[0]) {
+        ("write" | "signal", "refused") => format!("refused {}", words[1]),
+        (_, "refused") if words.len() == 3 => placed_kind(words[1], words[2]),
         ("read", "ok") => format!("ok type {}", words[1]),
+        ("walk", "ok") => format!("ok {} TLVs", walked_kind(words[1])),
         ("lookup", "found") if words[2] == "-" => "found empty".to_string(),
         ("lookup", "found") => "found".to_string(),
         ("linkmessage", "found") => format!("found {}", words[1]),
         ("write", "ok") => format!("ok type {}", written_type(words[2])),
-        ("write" | "signal", "refused") => format!("refused {}", words[1]),
         ("signal", "ok") => format!("ok {} octets", words[1]),
         ("suffixtlv", "ok") => "ok".to_string(),
         ("best" | "parent", "found") => "found".to_string(),
@@ -70,6 +72,24 @@ fn kind_of(vector: &Vector) -> String {
             rest_kind(words[3])
         ),
         _ => answer.clone(),
+    }
+}
+
+/// A refusal's number with its place: one of the three where tails begin, or
+/// any other.
+fn placed_kind(number: &str, at: &str) -> String {
+    match at {
+        "44" | "54" | "64" => format!("refused {number} at {at}"),
+        _ => format!("refused {number} elsewhere"),
+    }
+}
+
+/// How many TLVs were walked over, as far as one digit tells it.
+fn walked_kind(count: &str) -> &str {
+    if count.len() == 1 {
+        count
+    } else {
+        "many"
     }
 }
 

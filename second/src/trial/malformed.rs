@@ -42,9 +42,9 @@ const TOKENS: [&str; 34] = [
     "0x00000000000000000000000000000000000000000001",
 ];
 /// Names beside those of calls.
-const NAMES: [&str; 14] = [
+const NAMES: [&str; 16] = [
     "reads", "rea", "Read", "READ", "fresh1", "help", "vectors", "0", "al", "All", "bests",
-    "parents", "signals", "suffixtl",
+    "parents", "signals", "suffixtl", "walks", "wal",
 ];
 
 /// The line one step away.

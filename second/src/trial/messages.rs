@@ -1,11 +1,13 @@
 //! Messages as octets: sound ones with every odd value that reading allows,
 //! and the same spoiled in one place.
 
+use super::bad_tails::bad_tail;
 use super::random::Random;
 use super::tails;
 use super::values;
 use crate::engine::message::{Announce, Body, Header, Message, MessageType, LISTED_TYPES, SECOND};
 use crate::engine::octets::{number_at, u16_at};
+use crate::engine::tlv::HEAD;
 use crate::engine::white_rabbit::ANN_SUFIX;
 use crate::engine::writing::lay_out;
 
@@ -68,6 +70,12 @@ impl Draft {
         self.insert(self.tlvs.len(), tlv);
     }
 
+    /// The message with octets more at its end that are too few for a TLV.
+    fn extend(&mut self, octets: &[u8]) {
+        self.octets.extend_from_slice(octets);
+        self.set_length(self.octets.len());
+    }
+
     /// The message with a TLV more before the one of that index.
     fn insert(&mut self, index: usize, tlv: &[u8]) {
         let at = self.tlvs.get(index).copied().unwrap_or(self.octets.len());
@@ -96,11 +104,18 @@ impl Draft {
         (at + 2 <= self.octets.len()).then(|| u16_at(&self.octets, at))
     }
 
-    /// Fills the message up to the longest there is, or near it.
+    /// Fills the message up to the longest there is, or near it, with one TLV
+    /// or with as many as there is room for.
     fn fill(&mut self, random: &mut Random) {
         let size = LONGEST_MESSAGE - self.octets.len() - 4 - 2 * random.pick(&[0, 0, 1, 9]);
-        let data = random.octets(size);
-        self.append(&tails::tlv(0x0008, &data));
+        if random.chance(1, 3) {
+            for _ in 0..size / 4 {
+                self.append(&tails::empty_tlv(random));
+            }
+        } else {
+            let data = random.octets(size);
+            self.append(&tails::tlv(0x0008, &data));
+        }
     }
 
     /// Puts octets behind messageLength.
@@ -111,6 +126,12 @@ impl Draft {
             _ => random.octets(count),
         };
         self.octets.extend_from_slice(&padding);
+    }
+
+    /// Puts a few octets behind messageLength.
+    fn pad_a_little(&mut self, random: &mut Random) {
+        let count = 1 + random.place(20);
+        self.pad(random, count);
     }
 
     /// Spoils the message in one place.
@@ -209,13 +230,11 @@ impl Draft {
     /// Puts one to three octets behind the last TLV, within messageLength.
     fn leave_octets_over(&mut self, random: &mut Random) {
         let count = 1 + random.place(3);
-        let left_over = if random.chance(1, 2) {
-            vec![0; count]
+        if random.chance(1, 2) {
+            self.extend(&vec![0; count]);
         } else {
-            random.octets(count)
-        };
-        self.octets.extend_from_slice(&left_over);
-        self.set_length(self.octets.len());
+            self.extend(&random.octets(count));
+        }
     }
 
     /// Puts a White Rabbit message of a wrong size among the TLVs.
@@ -260,14 +279,36 @@ impl Draft {
         if random.chance(1, 2000) {
             self.pad(random, 65_000);
         } else if random.chance(1, 4) {
-            let count = 1 + random.place(20);
-            self.pad(random, count);
+            self.pad_a_little(random);
+        }
+    }
+
+    /// Puts in the tail's place one that reading is to refuse with 6 or 7, now
+    /// and then with another fault beside it, and some padding.
+    pub fn give_bad_tail(&mut self, random: &mut Random, magic: u16) {
+        self.octets.truncate(self.fixed_size);
+        self.tlvs.clear();
+        for piece in bad_tail(random, magic) {
+            if piece.len() < HEAD {
+                self.extend(&piece);
+            } else {
+                self.append(&piece);
+            }
+        }
+        if random.chance(1, 16) && self.is_whole() {
+            self.spoil(random, magic);
+        }
+        if random.chance(1, 3) {
+            self.pad_a_little(random);
         }
     }
 }
 
-/// How many TLVs a tail has.
+/// How many TLVs a tail has: mostly none or a few, now and then many.
 pub fn tlv_count(random: &mut Random) -> usize {
+    if random.chance(1, 200) {
+        return 7 + random.place(60);
+    }
     random.pick(&[0, 0, 0, 1, 1, 1, 1, 2, 2, 3, 4, 6])
 }
 
@@ -329,7 +370,11 @@ pub fn message(random: &mut Random, magic: u16, wanted: Option<MessageType>) -> 
     let header = header(random);
     let body = body(random, message_type);
     let mut draft = Draft::sound(random, magic, header, body);
-    draft.weather(random, magic);
+    if random.chance(1, 4) {
+        draft.give_bad_tail(random, magic);
+    } else {
+        draft.weather(random, magic);
+    }
     draft
 }
 

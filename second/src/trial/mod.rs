@@ -2,6 +2,7 @@
 //! weighted to the edges, the comparison of two programs' answers, and a table
 //! of how often each answer came.
 
+pub mod bad_tails;
 pub mod call_line;
 pub mod calls;
 pub mod candidates;

@@ -16,14 +16,20 @@ pub fn origin_line(random: &mut Random, magic: u16) -> Vec<u8> {
     let follow_header = follow_header(random, &sync_header);
     let mut sync = draft(random, magic, sync_header, MessageType::Sync);
     let mut follow_up = draft(random, magic, follow_header, MessageType::FollowUp);
-    match random.below(8) {
+    match random.below(12) {
         0 | 1 => sync.weather(random, magic),
         2 | 3 => follow_up.weather(random, magic),
         4 => {
             sync.weather(random, magic);
             follow_up.weather(random, magic);
         }
-        5 if random.chance(1, 3) => follow_up.octets = messages::noise(random),
+        5 => sync.give_bad_tail(random, magic),
+        6 | 7 => follow_up.give_bad_tail(random, magic),
+        8 => {
+            sync.give_bad_tail(random, magic);
+            follow_up.give_bad_tail(random, magic);
+        }
+        9 if random.chance(1, 3) => follow_up.octets = messages::noise(random),
         _ => {}
     }
     CallLine::named("origin")

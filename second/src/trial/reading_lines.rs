@@ -26,6 +26,12 @@ pub fn link_message_line(random: &mut Random, magic: u16) -> Vec<u8> {
         .text()
 }
 
+/// A line of `walk`.
+pub fn walk_line(random: &mut Random, magic: u16) -> Vec<u8> {
+    let octets = lent(random, magic, None);
+    CallLine::named("walk").octets(random, &octets).text()
+}
+
 /// A line of `lookup`, mostly of a type that the message has.
 pub fn lookup_line(random: &mut Random, magic: u16) -> Vec<u8> {
     let draft = message(random, magic, None);

@@ -92,27 +92,28 @@ fn sound_wr(random: &mut Random, magic: u16, number: u16) -> Vec<u8> {
     wr_fields(random, magic, number, size).tlv()
 }
 
-/// One of the seven messages whose data are one or two octets off, absent, or
-/// of another message's size.
+/// One of the seven messages whose data are one octet off, so that its length
+/// is odd, or misfit.
 pub fn wrong_size_wr(random: &mut Random, magic: u16) -> Vec<u8> {
+    if random.chance(4, 5) {
+        return misfit(random, magic);
+    }
     let number = random.pick(&LISTED);
     let right = data_size(number).unwrap_or(0);
-    let sizes = [
-        right + 2,
-        right + 1,
-        right.max(2) - 2,
-        right.max(1) - 1,
-        0,
-        2,
-        6,
-        16,
-        12,
-        32,
-    ];
-    let mut size = random.pick(&sizes);
-    if size == right {
-        size = right + 2;
-    }
+    let size = random.pick(&[right + 1, right.max(2) - 1]);
+    wr_fields(random, magic, number, size).tlv()
+}
+
+/// One of the seven messages with data of an even and wrong size: two octets
+/// off, absent, or of another message's size.
+pub fn misfit(random: &mut Random, magic: u16) -> Vec<u8> {
+    let number = random.pick(&LISTED);
+    let right = data_size(number).unwrap_or(0);
+    let sizes = [right + 2, right.max(2) - 2, 0, 2, 6, 16, 12, 32];
+    let size = match random.pick(&sizes) {
+        size if size == right => right + 2,
+        size => size,
+    };
     wr_fields(random, magic, number, size).tlv()
 }
 
@@ -181,6 +182,12 @@ fn other_tlv(random: &mut Random) -> Vec<u8> {
     tlv(tlv_type, &random.octets(size))
 }
 
+/// A TLV without data, of any type.
+pub fn empty_tlv(random: &mut Random) -> Vec<u8> {
+    let others = random.pick(&OTHER_TYPES);
+    tlv(random.pick(&[ORGANIZATION_EXTENSION, others, others]), &[])
+}
+
 /// A TLV that no reading check refuses; `usual` numbers are the ones that this
 /// type of message carries.
 pub fn sound_tlv(random: &mut Random, magic: u16, usual: &[u16]) -> Vec<u8> {
@@ -197,6 +204,11 @@ pub fn sound_tlv(random: &mut Random, magic: u16, usual: &[u16]) -> Vec<u8> {
         12 => short_extension(random, magic),
         _ => other_tlv(random),
     }
+}
+
+/// The numbers of all seven messages.
+pub fn every_number() -> &'static [u16] {
+    &LISTED
 }
 
 /// The numbers that a Signaling carries.

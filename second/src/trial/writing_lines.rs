@@ -1,6 +1,7 @@
 //! Lines of `write`, `signal` and `suffixtlv`: messages that fit, messages with
 //! one value that does not, and buffers about as large as the message.
 
+use super::bad_tails::bad_tail;
 use super::call_line::CallLine;
 use super::messages;
 use super::random::Random;
@@ -135,11 +136,14 @@ fn spoil_timestamp(random: &mut Random, body: &mut Body) {
     }
 }
 
-/// A tail, sound three times out of four, now and then as long as a message
-/// can be.
+/// A tail, sound two times out of three, now and then as long as a message can
+/// be.
 fn tail(random: &mut Random, magic: u16, message_type: MessageType) -> Vec<u8> {
     if random.chance(1, 500) {
         return longest_tail(random, message_type);
+    }
+    if random.chance(1, 10) {
+        return bad_tail(random, magic).concat();
     }
     let usual = messages::usual_numbers(message_type);
     let count = messages::tlv_count(random);

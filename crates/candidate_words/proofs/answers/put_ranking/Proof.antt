@@ -5,7 +5,7 @@ use Rattle.candidate_words.proofs.answers.put_ranking.Statement.{statem
 use Rattle.candidate_words.proofs.answers.put_ranking.Tie as tie
 
 returns : tie.Need-returns
-returns c = rw (c .before .before .outcome .given .1) (c .number .ensures, refl)
+returns c = rw (c .before .before .outcome .given .1) (c .answer .ensures, refl)
 
 returns-2 : tie.Need-returns-2
 returns-2 c = rw (c .before .enum-told .given .1) (refl, c .ranked-words .ensures)

@@ -44,7 +44,7 @@ fill-requires c κs =
 returns : tie.Need-returns
 returns c =
     let k = c .before .before .before .before in
-    rw (sym (k .checked .ensures) ∙ c .before .before .x .given .1) (c .number .ensures, refl)
+    rw (sym (k .checked .ensures) ∙ c .before .before .x .given .1) (c .answer .ensures, refl)
 
 -- src/places.rt:208:1
 returns-2 : tie.Need-returns-2

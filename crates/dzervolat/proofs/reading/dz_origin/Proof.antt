@@ -23,7 +23,7 @@ put-origin-requires c κs =
 returns : tie.Need-returns
 returns c =
     let x = c .before .before in
-    rw (← x .before .before .origin-says .ensures, x .x .given .1) (c .number .ensures, refl)
+    rw (← x .before .before .origin-says .ensures, x .x .given .1) (c .answer .ensures, refl)
 
 returns-2 : tie.Need-returns-2
 unfolding originIn

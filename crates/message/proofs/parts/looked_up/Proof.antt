@@ -8,14 +8,16 @@ use lib.ListN.{length, take, drop, length-take, length-drop}
 use Rattle.refusal.specs.declared.Outcome.{Outcome}
 use Rattle.refusal.specs.declared.Outcome.the-variants.{Done}
 use Rattle.tlv.specs.Walk.{first}
-use Rattle.tlv.specs.Faults.{soughtAt, tailCheck}
+use Rattle.tlv.specs.Faults.{soughtAt, faultOf}
 use Rattle.tlv.specs.declared.walk.Sought.the-variants.{OfType}
+use Rattle.tlv.specs.declared.walk.Fault.the-variants.{Sound}
 use Rattle.tlv.proofs.FaultLaws.{place-found, sound-check, faulty-check}
-use Rattle.message.specs.Reading.{checkOf, by}
+use Rattle.message.specs.Reading.{faultCheck, checkOf, by}
 use Rattle.message.specs.Parts.{lookupOf}
 use Rattle.message.specs.Sound.{boundsAt}
 use Rattle.message.specs.When.{IsStamped}
 use Rattle.message.specs.declared.parts.TlvRead.the-variants as lookup
+use Rattle.message.proofs.Laws.{no-fault}
 use Rattle.message.proofs.Exactly.{stamped}
 use Rattle.message.proofs.SoundLaws.{told-bounds, no-bounds, part-tail, not-looked-up}
 use borrow.Author.Needs.{needs}
@@ -36,13 +38,13 @@ lent c = let t = told c in rw (t .1) (t .0 .0 .1)
 sound : (c : tie.After-known-told) → let f = c .before .before .before in let a = f .before .before .before .before .before .args in
     let b = f .before .before .before .fixed-bounds .result in
     let t = take (b .length - b .size) (drop (b .size) (a .s .now)) in
-    (tailCheck (a .magic) t ≡ Done) × (c .before .p .given .0 .0 ≡ first (soughtAt (OfType (a .kind)) t) t 0)
+    (faultOf (a .magic) t ≡ Sound) × (c .before .p .given .0 .0 ≡ first (soughtAt (OfType (a .kind)) t) t 0)
 sound c = let f = c .before .before .before in sound-check _ _ _ (sym (f .sound-place .ensures) ∙ c .before .p .given .1)
 
 done : (c : tie.After-known-told) → let a = c .before .before .before .before .before .before .before .before .args in checkOf (a .magic) (a .s .now) ≡ Done
 done c =
     let t = told (c .before .before .before .before .before) in
-    stamped _ _ (t .0) ∙ rw (part-tail _ (t .1)) at (sound c .0)
+    stamped _ _ (t .0) ∙ ap (faultCheck _) (rw (part-tail _ (t .1)) at (sound c .0))
 
 returns : tie.Need-returns
 returns c =
@@ -70,7 +72,7 @@ returns-2 c =
     let n = faulty-check _ _ _ (sym (f .sound-place .ensures) ∙ m .enum-told .given .1) in
     c .unread2 .ensures
     ∙ ap (λ (x : Outcome). by x lookup.Refused lookup.Absent) (k .check2 .ensures)
-    ∙ not-looked-up _ _ _ (λ d. n (rw (part-tail _ (t .1)) (sym (stamped _ _ (t .0)) ∙ d)))
+    ∙ not-looked-up _ _ _ (λ d. n (rw (part-tail _ (t .1)) (no-fault _ _ (sym (stamped _ _ (t .0)) ∙ d))))
 
 add-t18 : tie.Need-add-t18
 add-t18 c =

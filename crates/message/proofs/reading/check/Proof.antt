@@ -1,13 +1,13 @@
 -- `reading::check` meets its contract: at each way out the tests before it are known.
 use Prim.Native.Nat.{_-_, _≤_}
-use mathlib.Core.Path.{_≡_, sym}
+use mathlib.Core.Path.{_≡_, sym, ap, _∙_}
 use native.Mathlib.Omega.{arith}
 use borrow.Author.Tests.{lt-ltb, le-ltb, eq-eqb, ne-eqb}
 use lib.ListN.{length}
 use Rattle.refusal.specs.Choice.{refuse}
 use Rattle.message.specs.Fields.{typeOf, fixedSize}
-use Rattle.message.specs.Reading.{checkOf}
-use Rattle.message.proofs.Laws.{size-least, no-tail}
+use Rattle.message.specs.Reading.{faultCheck, checkOf}
+use Rattle.message.proofs.Laws.{size-least, no-tail, part-short}
 use borrow.Author.Needs.{needs}
 use Rattle.message.proofs.reading.check.Statement.{statement}
 use Rattle.message.proofs.reading.check.Tie as tie
@@ -78,7 +78,7 @@ returns-7 c =
     let e2 = k .before .before in
     let z : n .u16-at .result - k .fixed-size .result ≡ 0 = omega arith in
     rw (le-ltb _ _ (e2 .before .before .if1 .left), eq-eqb _ _ (e2 .if2 .left), ← k .fixed-size .ensures, ne-eqb _ _ (e3 .if3 .left), ← n .u16-at .ensures, le-ltb _ _ (e4 .if4 .left), le-ltb _ _ (e5 .if5 .left), ← b .bad-stamp .ensures, e6 .if6 .left, z)
-    (sym (no-tail _))
+    (ap (faultCheck _) (sym (no-tail _)))
 
 returns-8 : tie.Need-returns-8
 unfolding checkOf refuse
@@ -92,7 +92,12 @@ returns-8 c =
     let k = e3 .before in
     let e2 = k .before .before in
     rw (le-ltb _ _ (e2 .before .before .if1 .left), eq-eqb _ _ (e2 .if2 .left), ← k .fixed-size .ensures, ne-eqb _ _ (e3 .if3 .left), ← n .u16-at .ensures, le-ltb _ _ (e4 .if4 .left), le-ltb _ _ (e5 .if5 .left), ← b .bad-stamp .ensures, e6 .if6 .left)
-    (c .check .ensures)
+    (c .tail-check .ensures)
+
+tail-check-requires : tie.Need-tail-check-requires
+tail-check-requires c κs =
+    let e4 = c .before .before .before .before .before in
+    part-short _ _ _ (e4 .if4 .left) (e4 .before .u16-at .ok)
 
 pub check-spec : {M : Type 1} → statement M
 check-spec =
@@ -113,5 +118,5 @@ check-spec =
     returns-7
     (λ c. search needs)
     (λ c. search needs)
-    (λ c κs. search needs)
+    tail-check-requires
     returns-8)

@@ -6,6 +6,7 @@ use Rattle.tlv.proofs.FaultLaws.{is-sound-check, unsound-check}
 use Rattle.message.specs.Sound.{boundsAt, soundBounds}
 use Rattle.message.specs.When.{IsStamped}
 use Rattle.message.specs.declared.sound.Bounds.{Bounds}
+use Rattle.message.proofs.Laws.{no-fault}
 use Rattle.message.proofs.Exactly.{stamped}
 use Rattle.message.proofs.SoundLaws.{told-bounds, no-bounds, part-tail, sound-none}
 use borrow.Author.Needs.{needs}
@@ -46,7 +47,7 @@ returns-3 c =
     let i = c .before in
     let t = told (i .before .before) in
     let n = unsound-check _ _ (sym (i .is-sound .ensures) ∙ c .if2 .left) in
-    sound-none _ _ (λ d. n (rw (part-tail _ (t .1)) (sym (stamped _ _ (t .0)) ∙ d)))
+    sound-none _ _ (λ d. n (rw (part-tail _ (t .1)) (no-fault _ _ (sym (stamped _ _ (t .0)) ∙ d))))
 
 pub sound-bounds-spec : {M : Type 1} → statement M
 sound-bounds-spec =

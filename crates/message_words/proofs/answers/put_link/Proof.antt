@@ -9,7 +9,7 @@ use Rattle.message_words.proofs.answers.put_link.Statement.{statement}
 use Rattle.message_words.proofs.answers.put_link.Tie as tie
 
 returns : tie.Need-returns
-returns c = rw (c .before .before .x .given .1) (c .number .ensures, refl)
+returns c = rw (c .before .before .x .given .1) (c .answer .ensures, refl)
 
 returns-3 : tie.Need-returns-3
 returns-3 c =

@@ -1,9 +1,11 @@
 -- `straight::check` meets its contract: at each way out the tests before it are known.
 use Prim.Native.Nat.{_+_, _<_, _≤_}
+use mathlib.Core.Path.{sym, _∙_}
 use native.Mathlib.Omega.{arith}
 use borrow.Author.Tests.{lt-ltb, le-ltb}
 use lib.ListN.{length}
 use Rattle.refusal.specs.Choice.{refuse}
+use Rattle.message.proofs.Laws.{told-fault, told-sound}
 use Rattle.writer.specs.Writing.{writeCheck}
 use Rattle.message_words.specs.Words.{headerOf}
 use borrow.Author.Needs.{needs}
@@ -33,6 +35,9 @@ returns-3 c =
     let e1 = f .before in
     rw (lt-ltb _ _ (e1 .if1 .left), ← f .body-holds .ensures, e2 .if2 .left, ← z .size-of .ensures .0, lt-ltb _ _ (past c))
 
+tail-check-requires : tie.Need-tail-check-requires
+tail-check-requires c κs = let h = within c in omega arith
+
 returns-4 : tie.Need-returns-4
 unfolding writeCheck refuse headerOf
 returns-4 c =
@@ -42,7 +47,7 @@ returns-4 c =
     let e2 = z .before in
     let f = e2 .before in
     let e1 = f .before in
-    rw (lt-ltb _ _ (e1 .if1 .left), ← f .body-holds .ensures, e2 .if2 .left, ← z .size-of .ensures .0, le-ltb _ _ (within e3), ← t .check .ensures, c .enum-told .given .1)
+    rw (lt-ltb _ _ (e1 .if1 .left), ← f .body-holds .ensures, e2 .if2 .left, ← z .size-of .ensures .0, le-ltb _ _ (within e3), told-fault _ _ (sym (t .tail-check .ensures) ∙ c .enum-told .given .1))
 
 returns-5 : tie.Need-returns-5
 unfolding writeCheck refuse headerOf
@@ -53,7 +58,7 @@ returns-5 c =
     let e2 = z .before in
     let f = e2 .before in
     let e1 = f .before in
-    rw (lt-ltb _ _ (e1 .if1 .left), ← f .body-holds .ensures, e2 .if2 .left, ← z .size-of .ensures .0, le-ltb _ _ (within e3), ← t .check .ensures, c .before .enum-told2 .given .1, lt-ltb _ _ (c .if4 .taken))
+    rw (lt-ltb _ _ (e1 .if1 .left), ← f .body-holds .ensures, e2 .if2 .left, ← z .size-of .ensures .0, le-ltb _ _ (within e3), told-sound _ _ (sym (t .tail-check .ensures) ∙ c .before .enum-told2 .given .1), lt-ltb _ _ (c .if4 .taken))
 
 returns-6 : tie.Need-returns-6
 unfolding writeCheck refuse headerOf
@@ -64,7 +69,7 @@ returns-6 c =
     let e2 = z .before in
     let f = e2 .before in
     let e1 = f .before in
-    rw (lt-ltb _ _ (e1 .if1 .left), ← f .body-holds .ensures, e2 .if2 .left, ← z .size-of .ensures .0, le-ltb _ _ (within e3), ← t .check .ensures, c .before .enum-told2 .given .1, le-ltb _ _ (c .if4 .left))
+    rw (lt-ltb _ _ (e1 .if1 .left), ← f .body-holds .ensures, e2 .if2 .left, ← z .size-of .ensures .0, le-ltb _ _ (within e3), told-sound _ _ (sym (t .tail-check .ensures) ∙ c .before .enum-told2 .given .1), le-ltb _ _ (c .if4 .left))
 
 pub check-spec : {M : Type 1} → statement M
 check-spec =
@@ -77,7 +82,7 @@ check-spec =
     (λ c κs. search needs)
     (λ c. search needs)
     returns-3
-    (λ c κs. search needs)
+    tail-check-requires
     (λ c. search needs)
     (λ c. search needs)
     (λ c. search needs)

@@ -5,7 +5,7 @@ use Rattle.message_words.proofs.writing.put_written.Statement.{statemen
 use Rattle.message_words.proofs.writing.put_written.Tie as tie
 
 returns : tie.Need-returns
-returns c = rw (c .before .before .x .given .1) (c .number .ensures, refl)
+returns c = rw (c .before .before .x .given .1) (c .answer .ensures, refl)
 
 returns-2 : tie.Need-returns-2
 returns-2 c = rw (c .before .before .x2 .given .1) (refl, refl)

@@ -1,12 +1,12 @@
 -- `writing::check` meets its contract: at each way out the tests before it are known.
 use Prim.Native.Nat.{_+_, _<_, _≤_}
-use mathlib.Core.Path.{_≡_, ap, _∙_}
+use mathlib.Core.Path.{_≡_, sym, ap, _∙_}
 use native.Mathlib.Omega.{arith}
 use borrow.Author.Tests.{lt-ltb, le-ltb}
 use lib.ListN.{length}
 use Rattle.refusal.specs.Choice.{refuse}
 use Rattle.message.specs.Fields.{fixedSize}
-use Rattle.message.proofs.Laws.{size-most}
+use Rattle.message.proofs.Laws.{size-most, told-fault, told-sound}
 use Rattle.layout.specs.Layout.{sizeOf}
 use Rattle.writer.specs.Writing.{writeCheck}
 use borrow.Author.Needs.{needs}
@@ -53,8 +53,8 @@ returns-3 c =
     let e1 = f .before in
     rw (lt-ltb _ _ (e1 .if1 .left), ← f .body-fits .ensures, e2 .if2 .left, ← size z, lt-ltb _ _ (past c))
 
-check-requires : tie.Need-check-requires
-check-requires c κs = search needs
+tail-check-requires : tie.Need-tail-check-requires
+tail-check-requires c κs = let h = within c in omega arith
 
 enum-told : tie.Need-enum-told
 enum-told c = search needs
@@ -75,7 +75,7 @@ returns-4 c =
     let e2 = k .before in
     let f = e2 .before in
     let e1 = f .before in
-    rw (lt-ltb _ _ (e1 .if1 .left), ← f .body-fits .ensures, e2 .if2 .left, ← size z, le-ltb _ _ (within e3), ← t .check .ensures, c .enum-told .given .1)
+    rw (lt-ltb _ _ (e1 .if1 .left), ← f .body-fits .ensures, e2 .if2 .left, ← size z, le-ltb _ _ (within e3), told-fault _ _ (sym (t .tail-check .ensures) ∙ c .enum-told .given .1))
 
 returns-5 : tie.Need-returns-5
 unfolding writeCheck refuse
@@ -87,7 +87,7 @@ returns-5 c =
     let e2 = k .before in
     let f = e2 .before in
     let e1 = f .before in
-    rw (lt-ltb _ _ (e1 .if1 .left), ← f .body-fits .ensures, e2 .if2 .left, ← size z, le-ltb _ _ (within e3), ← t .check .ensures, c .before .enum-told2 .given .1, lt-ltb _ _ (c .if4 .taken))
+    rw (lt-ltb _ _ (e1 .if1 .left), ← f .body-fits .ensures, e2 .if2 .left, ← size z, le-ltb _ _ (within e3), told-sound _ _ (sym (t .tail-check .ensures) ∙ c .before .enum-told2 .given .1), lt-ltb _ _ (c .if4 .taken))
 
 returns-6 : tie.Need-returns-6
 unfolding writeCheck refuse
@@ -99,7 +99,7 @@ returns-6 c =
     let e2 = k .before in
     let f = e2 .before in
     let e1 = f .before in
-    rw (lt-ltb _ _ (e1 .if1 .left), ← f .body-fits .ensures, e2 .if2 .left, ← size z, le-ltb _ _ (within e3), ← t .check .ensures, c .before .enum-told2 .given .1, le-ltb _ _ (c .if4 .left))
+    rw (lt-ltb _ _ (e1 .if1 .left), ← f .body-fits .ensures, e2 .if2 .left, ← size z, le-ltb _ _ (within e3), told-sound _ _ (sym (t .tail-check .ensures) ∙ c .before .enum-told2 .given .1), le-ltb _ _ (c .if4 .left))
 
 pub check-spec : {M : Type 1} → statement M
 check-spec =
@@ -112,7 +112,7 @@ check-spec =
     fixed-size-requires
     sub-if3
     returns-3
-    check-requires
+    tail-check-requires
     enum-told
     enum-told-2
     add-if4
