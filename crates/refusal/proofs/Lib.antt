@@ -1,4 +1,5 @@
 pub mod Choice
 pub mod Limits
 pub mod Numbers
+mod Witnesses
 mod Determined
