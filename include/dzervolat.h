@@ -244,7 +244,7 @@ dz_answer dz_lookup(const uint8_t *octets, size_t length, uint16_t type, uint16_
 
    At 0 it refuses as dz_read. From another octet on it looks at what stands there alone, so that a tail of any length is gone through once: it
    refuses as dz_read does before 6, then 6 where no whole TLV of even length stands there, 7 where that has a wrong size. At messageLength, and
-   past it, there is none. */
+   past it, there is none. An octet from 1 on that lies before the tail stands for the tail's start. */
 dz_answer dz_walk(const uint8_t *octets, size_t length, size_t from, uint16_t magic, uint64_t found[DZ_FOUND_TLV_WORDS]);
 
 /* The White Rabbit suffix of an Announce: its wrFlags, 0 to 15 (DZ_FOUND_WRFLAGS). Refuses as dz_read, then 3 if it is another message. */

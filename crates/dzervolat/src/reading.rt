@@ -43,8 +43,8 @@ pub extern "C" fn dz_lookup(octets: &[u8], kind: u16, magic: u16, found: &mut [u
     message_words::answers::put_tlv(found, x, length)
 }
 
-// The first TLV that stands at octet `from` or later: 1, where it stands in the message, its type, how many octets of data it has,
-// where they begin and where it ends; or zeros.
+// The TLV that stands at octet `from`, the first at 0: 1, where it stands in the message, its type, how many octets of data it has,
+// where they begin and where it ends; or zeros where the message has ended.
 #[no_mangle]
 pub extern "C" fn dz_walk(octets: &[u8], from: usize, magic: u16, found: &mut [u64; 6]) -> u64
     ensures answer { λ r. ⌜ r ≡ walkedCode (nextIn magic from (now (octets .entry))) ⌝ }

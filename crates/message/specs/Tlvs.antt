@@ -45,7 +45,7 @@ standing magic size t p =
     (λ (q : ℕ). pick (misfitAt magic t p) (walked.Refused (refusal.WrBad (size + p))) (walked.Next (tlvOf size t p))))
 
 -- One a call. At 0 a walk begins, with all the checks of reading; from a place behind 0 it goes on, and what stands at that octet is
--- looked at alone, so that a tail is gone through once.
+-- looked at alone, so that a tail is gone through once. An octet of the fixed part stands for the tail's start.
 unfoldable pub nextIn : ℕ → ℕ → List ℕ → Walked
 nextIn magic from s =
     pick (eqb from 0)
