@@ -1,5 +1,5 @@
 -- The TLVs of a message that is read: they lie end to end from the fixed size to messageLength, a loop of calls gives them in order, and
--- looking up a type finds the first of them that has it. What a call gives lies in the message.
+-- looking up a type finds the first of them that has it. What a call gives lies in the message, and a walk is refused as reading is.
 use Prim.Native.Nat.{ℕ, _+_, _-_, _<_, _≤_}
 use mathlib.Core.Path.{_≡_, refl, sym, ap, subst, _∙_}
 use mathlib.Core.List.{List, [], _∷_}
@@ -10,6 +10,7 @@ use lib.Dec.{eqb, leb, ltb}
 use lib.ListN.{length}
 use Rattle.octets.specs.Be.{be}
 use Rattle.refusal.specs.Choice.{pick, refuse}
+use Rattle.refusal.specs.Refusal.{codeOf}
 use Rattle.refusal.proofs.Choice.{passed, goes-on}
 use Rattle.refusal.specs.declared.Refusal.{Refusal}
 use Rattle.refusal.specs.declared.Refusal.the-variants as refusal
@@ -28,8 +29,9 @@ use Rattle.message.specs.Fields.{typeOf, versionOf, lengthOf, fixedSize,
 use Rattle.message.specs.Reading.{badStamp, headed, checkOf, by}
 use Rattle.message.specs.Parts.{Bounded, lookupOf}
 use Rattle.message.specs.Sound.{fixedBounds}
-use Rattle.message.specs.When.{IsStamped}
+use Rattle.message.specs.When.{IsStamped, When}
 use Rattle.message.specs.Tlvs.{tlvOf, endOf, tlvsFrom, tlvsOf, standing, nextIn, Tiles, Gives, ofType}
+use Rattle.message.specs.Answers.{walkedCode}
 use Rattle.message.specs.declared.tlvs.Tlv.{Tlv}
 use Rattle.message.specs.declared.tlvs.Walked.{Walked}
 use Rattle.message.specs.declared.tlvs.Walked.the-variants as walked
@@ -37,6 +39,7 @@ use Rattle.message.specs.declared.parts.TlvRead.{TlvRead}
 use Rattle.message.specs.declared.parts.TlvRead.the-variants as lookup
 use Rattle.message.proofs.Laws.{accepted, bounded, tail-length}
 use Rattle.message.proofs.Part.{tail-be}
+use Rattle.message.proofs.Exactly.{told, when-told}
 
 no-next : {x : Refusal} {y : Tlv} → walked.Refused x ≡ walked.Next y → ⊥
 no-next e = let z : _≡_ {A = ℕ} 0 1 = cc in omega arith
@@ -249,3 +252,24 @@ module _ (magic : ℕ) (s : List ℕ) (read : checkOf magic s ≡ Done) where
           (λ p l b w. absurd (not-broken l (walk-bad (length (tailOf s)) (λ (r : ℕ). r) (λ (r x : ℕ). x) (tailOf s) p l b) w))
           (λ p q l m k w.
           rw (one-more l m, walk-more (length (tailOf s)) none step (tailOf s) p q l m) (there p q l (test p) refl (k (still l m w))))
+
+-- ---- A WALK IS REFUSED AS READING IS: its first call gives the number that reading gives, with its place
+module _ (magic : ℕ) (s : List ℕ) where
+  -- a loop that gives TLVs is not refused
+  first-given : (xs : List Tlv) → Gives magic s 0 xs → walkedCode (nextIn magic 0 s) ≡ 0
+  first-given [] e = ap walkedCode e
+  first-given (x ∷ xs) e = ap walkedCode (e .0)
+
+  walk-code : walkedCode (nextIn magic 0 s) ≡ codeOf (checkOf magic s)
+  unfolding nextIn
+  walk-code = cases (checkOf magic s) refl
+    where
+      cases : (o : Outcome) → checkOf magic s ≡ o → walkedCode (nextIn magic 0 s) ≡ codeOf (checkOf magic s)
+      cases Done e = first-given (tlvsOf s) (given magic s e) ∙ ap codeOf (sym e)
+      cases (Refused x) e = rw e
+
+  pub walk-told : When magic s (walkedCode (nextIn magic 0 s))
+  walk-told = subst (When magic s) (sym walk-code) (told magic s)
+
+  pub when-walk : {n : ℕ} → When magic s n → walkedCode (nextIn magic 0 s) ≡ n
+  when-walk w = walk-code ∙ when-told magic s w
