@@ -41,6 +41,9 @@ parts-link-message-determined κs a x y v w p q = (p ∙ sym q, refl)
 pub reading-check-determined : Fixes its.reading.check.ended its.reading.check.Reads.Post
 reading-check-determined κs a x y v w p q = (p ∙ sym q, refl)
 
+pub reading-takes-determined : Fixes its.reading.takes.ended its.reading.takes.Reads.Post
+reading-takes-determined κs a x y v w p q = (p ∙ sym q, refl)
+
 pub reading-read-determined : Fixes its.reading.read.ended its.reading.read.Reads.Post
 reading-read-determined κs a x y v w p q = (p ∙ sym q, refl)
 

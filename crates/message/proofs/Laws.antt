@@ -1,8 +1,8 @@
--- What an accepted message says of the octets lent, and the bounds of the fixed sizes.
+-- What an accepted message says of the octets lent, one of the type that a call takes, and the bounds of the fixed sizes.
 use Prim.Native.Nat.{ℕ, _+_, _-_, _<_, _≤_}
 use mathlib.Core.Path.{_≡_, refl, sym, _∙_}
 use mathlib.Core.List.{List, []}
-use mathlib.Core.Bool.{Bool, true, false}
+use mathlib.Core.Bool.{Bool, true, false, not}
 use native.Mathlib.Omega.{arith}
 use borrow.Author.Tests.{ltb-false, eqb-true, eqb-false, not-false}
 use lib.Dec.{eqb}
@@ -11,6 +11,7 @@ use Rattle.refusal.specs.Choice.{pick, refuse}
 use Rattle.refusal.proofs.Choice.{passed}
 pub use Rattle.refusal.proofs.Choice.{no-refusal}
 use Rattle.refusal.specs.declared.Refusal.{Refusal}
+use Rattle.refusal.specs.declared.Refusal.the-variants.{«Type»}
 use Rattle.refusal.specs.declared.Outcome.{Outcome}
 use Rattle.refusal.specs.declared.Outcome.the-variants.{Done, Refused}
 use Rattle.tlv.specs.Walk.{walkBy, walk}
@@ -19,7 +20,7 @@ use Rattle.tlv.specs.declared.walk.Fault.{Fault}
 use Rattle.tlv.specs.declared.walk.Fault.the-variants.{Sound, Broken, Misfit}
 use Rattle.tlv.proofs.FaultLaws.{break-inside, misfit-inside}
 use Rattle.message.specs.Fields.{typeOf, versionOf, lengthOf, fixedSize, tailOf}
-use Rattle.message.specs.Reading.{badStamp, IsPlaced, faultCheck, checkOf}
+use Rattle.message.specs.Reading.{badStamp, IsPlaced, faultCheck, checkOf, by, takesOf}
 use Rattle.message.specs.Parts.{Bounded}
 
 -- `fixedSize`, by its six tests
@@ -128,3 +129,33 @@ fixed-part magic s e =
     let a = accepted magic s e in
     let h : 44 ≤ fixedSize (typeOf s) = size-least (typeOf s) (a .listed) in
     (omega arith, omega arith)
+
+-- two lists of checks, one after the other, are passed
+pub both-done : (x y : Outcome) → by x Refused y ≡ Done → (x ≡ Done) × (y ≡ Done)
+both-done Done y e = (refl, e)
+both-done (Refused z) y e = absurd (no-refusal z e)
+
+-- a message of the type that is taken
+pub record Taken (magic kind : ℕ) (s : List ℕ) : Type 0 where
+  pub checked : checkOf magic s ≡ Done
+  pub type-is : typeOf s ≡ kind
+  pub fixed : 44 ≤ length s
+
+pub taken : (magic kind : ℕ) (s : List ℕ) → takesOf magic kind s ≡ Done → Taken magic kind s
+unfolding takesOf
+taken magic kind s e =
+    let p = both-done (checkOf magic s) _ e in
+    let q = passed _ _ _ _ (no-refusal _) (p .1) in
+    record { checked = p .0; type-is = eqb-true _ _ (not-false _ (q .0)); fixed = fixed-part magic s (p .0) .0 }
+
+-- what a call answers that takes one type, by what was told of these checks
+module _ {A : Type 0} (refused : Refusal → A) (a : A) (magic kind : ℕ) (s : List ℕ) where
+  pub taking : {r o : Outcome} → r ≡ takesOf magic kind s → r ≡ o
+      → by o refused a ≡ by (checkOf magic s) refused (refuse (not (eqb (typeOf s) kind)) (refused «Type») a)
+  unfolding takesOf refuse
+  taking e d = rw (← d, e) (cases (checkOf magic s) (not (eqb (typeOf s) kind)))
+    where
+      cases : (o : Outcome) (b : Bool) → by (by o Refused (refuse b (Refused «Type») Done)) refused a ≡ by o refused (refuse b (refused «Type») a)
+      cases (Refused x) b = refl
+      cases Done true = refl
+      cases Done false = refl

@@ -50,6 +50,11 @@ abbrev pub by : {A : Type 0} → Outcome → (Refusal → A) → A → A
 by outcome.Done refused a = a
 by (outcome.Refused x) refused a = refused x
 
+-- the reading checks, then 3 where the message is "not the one the call takes"
+unfoldable pub takesOf : ℕ → ℕ → List ℕ → Outcome
+takesOf magic kind s =
+    by (checkOf magic s) outcome.Refused (refuse (not (eqb (typeOf s) kind)) (outcome.Refused «Type») outcome.Done)
+
 unfoldable pub readOf : ℕ → List ℕ → Reading
 readOf magic s = by (checkOf magic s) reading.Refused (reading.Whole (messageOf s))
 

@@ -122,15 +122,9 @@ fn suffix_read(x: Suffix) -> SuffixRead
 pub fn suffix(s: &[u8], magic: u16) -> SuffixRead
     ensures { λ r. ⌜ r ≡ suffixOf magic (now (s .entry)) ⌝ }
 {
-    match crate::reading::check(s, magic) {
+    match crate::reading::takes(s, ANNOUNCE, magic) {
         Outcome::Refused(x) => SuffixRead::Refused(x),
-        Outcome::Done => {
-            if s[0] % 16 == ANNOUNCE {
-                suffix_read(tlv::wr::first_suffix(checked_tail(s), magic))
-            } else {
-                SuffixRead::Refused(Refusal::Type)
-            }
-        }
+        Outcome::Done => suffix_read(tlv::wr::first_suffix(checked_tail(s), magic)),
     }
 }
 
@@ -147,14 +141,8 @@ fn link_read(x: LinkFound) -> LinkRead
 pub fn link_message(s: &[u8], magic: u16) -> LinkRead
     ensures { λ r. ⌜ r ≡ linkOf magic (now (s .entry)) ⌝ }
 {
-    match crate::reading::check(s, magic) {
+    match crate::reading::takes(s, SIGNALING, magic) {
         Outcome::Refused(x) => LinkRead::Refused(x),
-        Outcome::Done => {
-            if s[0] % 16 == SIGNALING {
-                link_read(tlv::wr::first_link(checked_tail(s), magic))
-            } else {
-                LinkRead::Refused(Refusal::Type)
-            }
-        }
+        Outcome::Done => link_read(tlv::wr::first_link(checked_tail(s), magic)),
     }
 }

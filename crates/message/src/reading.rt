@@ -3,7 +3,7 @@ ghost use mathlib.Core.Path.{_≡_};
 ghost use Prim.Native.Nat.{_+_, _≤_, _<_};
 ghost use lib.ListN.{length};
 ghost use Rattle.tlv.specs.Faults.{faultOf};
-ghost use Rattle.message.specs.Reading.{badStamp, IsPlaced, faultCheck, checkOf, readOf};
+ghost use Rattle.message.specs.Reading.{badStamp, IsPlaced, faultCheck, checkOf, takesOf, readOf};
 use crate::fields::ANNOUNCE;
 use crate::fields::Announce;
 use crate::fields::Header;
@@ -88,6 +88,22 @@ pub fn check(s: &[u8], magic: u16) -> Outcome
     }
     let tail = &s[size..length];
     tail_check(tail, size, magic)
+}
+
+// The checks of a call that takes messages of one type: those of reading, then 3 if it is another message.
+pub fn takes(s: &[u8], kind: u8, magic: u16) -> Outcome
+    ensures { λ r. ⌜ r ≡ takesOf magic kind (now (s .entry)) ⌝ }
+{
+    match check(s, magic) {
+        Outcome::Refused(x) => Outcome::Refused(x),
+        Outcome::Done => {
+            if s[0] % 16 == kind {
+                Outcome::Done
+            } else {
+                Outcome::Refused(Refusal::Type)
+            }
+        }
+    }
 }
 
 // Any octets at all, read.

@@ -9,8 +9,8 @@ use Rattle.octets.specs.Be.{be}
 use Rattle.tlv.specs.Walk.{walkBy, walk}
 use Rattle.tlv.specs.Faults.{faultOf}
 use Rattle.message.specs.Fields.{fixedSize, identityAt, headerOf}
-use Rattle.message.specs.Reading.{checkOf}
-use Rattle.origin.specs.Origin.{takesOf, follows, followCheck, originCheck, originIn}
+use Rattle.message.specs.Reading.{checkOf, takesOf}
+use Rattle.origin.specs.Origin.{follows, followCheck, originCheck, originIn}
 
 -- the ten octets of a timestamp, told apart by the first nanosecond octet
 abbrev stamp : ℕ → List ℕ

@@ -10,10 +10,10 @@ use Rattle.refusal.specs.Refusal.{answerOf, codeOf}
 use Rattle.refusal.proofs.Numbers.{answered}
 use Rattle.refusal.specs.declared.Outcome.{Outcome}
 use Rattle.refusal.specs.declared.Outcome.the-variants.{Done, Refused}
-use Rattle.message.specs.Reading.{by}
+use Rattle.message.specs.Reading.{by, takesOf}
 use Rattle.message.specs.When.{TakesWhen}
 use Rattle.message.proofs.Exactly.{none-refused, when-takes, takes-told}
-use Rattle.origin.specs.Origin.{isTwoStep, takesOf, follows, followCheck, originCheck}
+use Rattle.origin.specs.Origin.{isTwoStep, follows, followCheck, originCheck}
 use Rattle.origin.specs.When.{Follows, IsTwoStep, OriginWhen, of-sync, one-step, of-follow, mismatch, two-step}
 
 -- ---- one message: the reading checks, then 3 if it is not the one the call takes

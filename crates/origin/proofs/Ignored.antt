@@ -8,10 +8,10 @@ use lib.Dec.{eqb}
 use Rattle.refusal.specs.Choice.{pick, refuse}
 use Rattle.refusal.specs.declared.Refusal.the-variants.{«Type»}
 use Rattle.refusal.specs.declared.Outcome.the-variants.{Done, Refused}
-use Rattle.message.specs.Reading.{by}
+use Rattle.message.specs.Reading.{by, takesOf}
 use Rattle.message.specs.Ignored.{Alike}
 use Rattle.message.proofs.Ignored.{type-same, header-same, octet-six, by-same, by-under, accepted-stamp}
-use Rattle.origin.specs.Origin.{isTwoStep, takesOf, follows, followCheck, originCheck, stampPart, originIn}
+use Rattle.origin.specs.Origin.{isTwoStep, follows, followCheck, originCheck, stampPart, originIn}
 use Rattle.origin.proofs.Laws.{sync-taken, follow-taken}
 
 module _ (magic : ℕ) (a b : List ℕ) (s : Alike a b) where

@@ -4,31 +4,13 @@ use mathlib.Core.Path.{_≡_, refl}
 use mathlib.Core.List.{List}
 use mathlib.Core.Bool.{Bool, true, false}
 use native.Mathlib.Omega.{arith}
-use borrow.Author.Tests.{eqb-true, not-false}
+use borrow.Author.Tests.{not-false}
 use lib.ListN.{length, length-take, length-drop}
 use Rattle.refusal.proofs.Choice.{passed}
-use Rattle.refusal.specs.declared.Outcome.{Outcome}
-use Rattle.refusal.specs.declared.Outcome.the-variants.{Done, Refused}
-use Rattle.message.specs.Fields.{typeOf}
-use Rattle.message.specs.Reading.{checkOf, by}
-use Rattle.message.proofs.Laws.{no-refusal, fixed-part}
-use Rattle.origin.specs.Origin.{isTwoStep, takesOf, follows, followCheck, originCheck, Stamped, holder, stampPart}
-
-both-done : (x y : Outcome) → by x Refused y ≡ Done → (x ≡ Done) × (y ≡ Done)
-both-done Done y e = (refl, e)
-both-done (Refused z) y e = absurd (no-refusal z e)
-
-pub record Taken (magic kind : ℕ) (s : List ℕ) : Type 0 where
-  pub checked : checkOf magic s ≡ Done
-  pub type-is : typeOf s ≡ kind
-  pub fixed : 44 ≤ length s
-
-pub taken : (magic kind : ℕ) (s : List ℕ) → takesOf magic kind s ≡ Done → Taken magic kind s
-unfolding takesOf
-taken magic kind s e =
-    let p = both-done (checkOf magic s) _ e in
-    let q = passed _ _ _ _ (no-refusal _) (p .1) in
-    record { checked = p .0; type-is = eqb-true _ _ (not-false _ (q .0)); fixed = fixed-part magic s (p .0) .0 }
+use Rattle.refusal.specs.declared.Outcome.the-variants.{Done}
+use Rattle.message.specs.Reading.{takesOf}
+use Rattle.message.proofs.Laws.{no-refusal, both-done, Taken, taken}
+use Rattle.origin.specs.Origin.{isTwoStep, follows, followCheck, originCheck, Stamped, holder, stampPart}
 
 pub sync-taken : (magic : ℕ) (s f : List ℕ) → originCheck magic s f ≡ Done → Taken magic 0x0 s
 unfolding originCheck

@@ -9,17 +9,12 @@ use Rattle.refusal.specs.Choice.{pick, refuse}
 use Rattle.refusal.specs.declared.Refusal.the-variants.{«Type»}
 use Rattle.refusal.specs.declared.Outcome.{Outcome}
 use Rattle.refusal.specs.declared.Outcome.the-variants as outcome
-use Rattle.message.specs.Fields.{typeOf, headerOf}
-use Rattle.message.specs.Reading.{checkOf, by}
+use Rattle.message.specs.Fields.{headerOf}
+use Rattle.message.specs.Reading.{by, takesOf}
 
 -- "with the two-step bit (0x02 of octet 6)"
 abbrev pub isTwoStep : List ℕ → Bool
 isTwoStep sync = eqb (getD sync 6 0 / 2 % 2) 1
-
--- the reading checks, then 3 where the message is "not the one the call takes"
-unfoldable pub takesOf : ℕ → ℕ → List ℕ → Outcome
-takesOf magic kind s =
-    by (checkOf magic s) outcome.Refused (refuse (not (eqb (typeOf s) kind)) (outcome.Refused «Type») outcome.Done)
 
 -- a Follow_Up that agrees with its Sync "in sender, domain or sequenceId"; "Identities are ten octets, clock then port"
 unfoldable pub follows : List ℕ → List ℕ → Bool

@@ -7,27 +7,11 @@
 ghost use mathlib.Core.Path.{_≡_};
 ghost use Prim.Native.Nat.{_≤_};
 ghost use lib.ListN.{length};
-ghost use Rattle.origin.specs.Origin.{isTwoStep, takesOf, follows, followCheck, originCheck, Stamped, stampPart, holder, originIn};
+ghost use Rattle.origin.specs.Origin.{isTwoStep, follows, followCheck, originCheck, Stamped, stampPart, holder, originIn};
 use message::fields::FOLLOW_UP;
 use message::fields::SYNC;
 use refusal::Outcome;
 use refusal::Refusal;
-
-// The reading checks of a message, then 3 if it is not of the type that is taken.
-fn takes(s: &[u8], kind: u8, magic: u16) -> Outcome
-    ensures { λ r. ⌜ r ≡ takesOf magic kind (now (s .entry)) ⌝ }
-{
-    match message::reading::check(s, magic) {
-        Outcome::Refused(x) => Outcome::Refused(x),
-        Outcome::Done => {
-            if s[0] % 16 == kind {
-                Outcome::Done
-            } else {
-                Outcome::Refused(Refusal::Type)
-            }
-        }
-    }
-}
 
 // Whether a Follow_Up has the sender, the domain and the sequenceId of a Sync.
 fn is_of(sync: &[u8], follow: &[u8]) -> bool
@@ -46,7 +30,7 @@ fn follow_says(sync: &[u8], follow: &[u8], magic: u16) -> Outcome
     requires { ⌜ 34 ≤ length (now sync) ⌝ }
     ensures { λ r. ⌜ r ≡ followCheck magic (now (sync .entry)) (now (follow .entry)) ⌝ }
 {
-    match takes(follow, FOLLOW_UP, magic) {
+    match message::reading::takes(follow, FOLLOW_UP, magic) {
         Outcome::Refused(x) => Outcome::Refused(x),
         Outcome::Done => {
             if is_of(sync, follow) {
@@ -70,7 +54,7 @@ fn is_two_step(sync: &[u8]) -> bool
 pub fn origin_says(sync: &[u8], follow: &[u8], magic: u16) -> Outcome
     ensures { λ r. ⌜ r ≡ originCheck magic (now (sync .entry)) (now (follow .entry)) ⌝ }
 {
-    match takes(sync, SYNC, magic) {
+    match message::reading::takes(sync, SYNC, magic) {
         Outcome::Refused(x) => Outcome::Refused(x),
         Outcome::Done => {
             if is_two_step(sync) {

@@ -3,7 +3,7 @@ use mathlib.Core.Path.{sym, _∙_}
 use native.Mathlib.Omega.{arith}
 use Rattle.refusal.specs.Choice.{refuse}
 use Rattle.origin.specs.Origin.{followCheck}
-use Rattle.origin.proofs.Laws.{taken}
+use Rattle.message.proofs.Laws.{taken}
 use borrow.Author.Needs.{needs}
 use Rattle.origin.proofs.follow_says.Statement.{statement}
 use Rattle.origin.proofs.follow_says.Tie as tie

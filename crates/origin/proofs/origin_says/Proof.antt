@@ -2,7 +2,7 @@
 use mathlib.Core.Path.{sym, _∙_}
 use native.Mathlib.Omega.{arith}
 use Rattle.origin.specs.Origin.{originCheck}
-use Rattle.origin.proofs.Laws.{taken}
+use Rattle.message.proofs.Laws.{taken}
 use borrow.Author.Needs.{needs}
 use Rattle.origin.proofs.origin_says.Statement.{statement}
 use Rattle.origin.proofs.origin_says.Tie as tie

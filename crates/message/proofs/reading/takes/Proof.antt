@@ -1,13 +1,13 @@
--- `takes` meets its contract: by the checks, then by the type.
+-- `reading::takes` meets its contract: by the checks, then by the type.
 use mathlib.Core.Path.{sym, _∙_}
 use native.Mathlib.Omega.{arith}
 use borrow.Author.Tests.{eq-eqb, ne-eqb}
 use Rattle.message.proofs.Laws.{fixed-part}
 use Rattle.refusal.specs.Choice.{refuse}
-use Rattle.origin.specs.Origin.{takesOf}
+use Rattle.message.specs.Reading.{takesOf}
 use borrow.Author.Needs.{needs}
-use Rattle.origin.proofs.takes.Statement.{statement}
-use Rattle.origin.proofs.takes.Tie as tie
+use Rattle.message.proofs.reading.takes.Statement.{statement}
+use Rattle.message.proofs.reading.takes.Tie as tie
 
 shared-slice-read-if1 : tie.Need-shared-slice-read-if1
 shared-slice-read-if1 c = let e = c .before in let k = e .before .before in omega (arith, fixed-part _ _ (sym (k .check .ensures) ∙ e .enum-told .given .1) .0)
