@@ -948,6 +948,48 @@ static void expect_round_trip(size_t at, size_t l)
     expect(!memcmp(octets(OUT) + at, octets(TAIL), l), "another tail");
 }
 
+/* A number of two octets. */
+static uint64_t two_octets(const uint8_t *o)
+{
+    return (uint64_t)o[0] << 8 | o[1];
+}
+
+/* Whether a whole TLV with L octets of data is a known White Rabbit message with a wrong data size. */
+static int is_misfit(const uint8_t *o, uint64_t l)
+{
+    static const uint8_t form[] = {0x08, 0x00, 0x30, DZ_EXAMPLE_MAGIC >> 8, DZ_EXAMPLE_MAGIC & 0xFF, 1}, sizes[] = {0, 0, 0, 6, 16, 0};
+    if (two_octets(o) != 3 || l < 8 || memcmp(o + 4, form, sizeof form)) return 0;
+    uint64_t number = two_octets(o + 10);
+    if (number == 0x2000) return l != 8 + 2;
+    return number >= DZ_LINK_SLAVE_PRESENT && number <= DZ_LINK_WR_MODE_ON && l != 8u + sizes[number - DZ_LINK_SLAVE_PRESENT];
+}
+
+/* A walk from any octet but 0 is refused as reading is before 6, and else tells what stands there alone: a TLV, 6 or 7 with that place, nothing at
+   messageLength and past it. An octet of the fixed part stands for the tail's start. */
+static void expect_astray(size_t n, dz_answer read, uint64_t from)
+{
+    const uint8_t *o = octets(FRAME);
+    const uint64_t *tlv = words(FOUND);
+    dz_answer answer = walk(n, from);
+    if (from == 0 || (read != DZ_OK && !dz_place(read))) {
+        must_be(answer, read);
+        return;
+    }
+    uint64_t size = fixed_size(o[0] % 16), end = two_octets(o + 2), at = from < size ? size : from, left = at < end ? end - at : 0;
+    uint64_t l = left < 4 ? 0 : two_octets(o + at + 2);
+    if (!left) {
+        must_be(answer, DZ_OK);
+        expect(!tlv[DZ_FOUND], "a TLV past the end of the message");
+    } else if (left < 4 || l % 2 || l > left - 4) {
+        must_be(answer, at << 8 | DZ_REFUSED_TLV);
+    } else if (is_misfit(o + at, l)) {
+        must_be(answer, at << 8 | DZ_REFUSED_WRBAD);
+    } else {
+        must_be(answer, DZ_OK);
+        expect(tlv[DZ_FOUND] && tlv[DZ_TLV_AT] == at && tlv[DZ_TLV_TYPE] == two_octets(o + at) && tlv[DZ_TLV_LENGTH] == l, "another TLV than the one that stands there");
+    }
+}
+
 /* A walk is refused as reading is, or goes from the tail's start to its end, and the first TLV of a type that it meets is the one that is looked up. */
 static void expect_walk(size_t n, dz_answer read, uint64_t at, uint64_t l)
 {
@@ -960,7 +1002,7 @@ static void expect_walk(size_t n, dz_answer read, uint64_t at, uint64_t l)
         must_be(walk(n, at), DZ_OK);
     }
     if (read == DZ_OK) expect(at == end, "a walk that ends before the tail does");
-    walk(n, below(OCTETS));
+    expect_astray(n, read, one_in(8) ? edge() : below(n + 8));
 }
 
 /* All that reads a message refuses it as reading does, or answers what lies in it. */
