@@ -1,10 +1,8 @@
 // What a port keeps: how many of its sixteen records are live, how many are candidates, and the record of a sender.
 use crate::Parent;
-use page::tally;
 use ports::asking::Looked;
 use ports::asking::Status;
 use rank::PortIdentity;
-use senders::Record;
 use slots::Seen;
 
 // How many records of a port are live, and how many of those are candidates.
@@ -21,19 +19,16 @@ fn seen(words: &[u64; ports::WORDS], port: u8, slot: usize) -> Seen {
     }
 }
 
-// The counts with one record more.
-fn with(n: Records, r: Record, window: u64, t: u64) -> Records {
-    let live = senders::is_live(r, window, t) as u64;
-    let candidate = senders::is_qualified(r, window, t) as u64;
-    Records {
-        live: std::num::wrapping_add_u64(n.live, live),
-        candidates: std::num::wrapping_add_u64(n.candidates, candidate),
-    }
-}
-
+// The counts with what one slot more holds.
 fn one(n: Records, s: Seen, window: u64, t: u64) -> Records {
     match s {
-        Seen::Held(r) => with(n, r, window, t),
+        Seen::Held(r) => Records {
+            live: std::num::wrapping_add_u64(n.live, senders::is_live(r, window, t) as u64),
+            candidates: std::num::wrapping_add_u64(
+                n.candidates,
+                senders::is_qualified(r, window, t) as u64,
+            ),
+        },
         Seen::Empty => n,
     }
 }
@@ -84,42 +79,15 @@ pub fn record(words: &[u64; ports::WORDS], p: Parent) -> Seen {
     s
 }
 
-// What became of so many Announces of a tenant in this hour.
-fn tried(counts: &[u64; 76], port: u8, all: u64) {
-    let refused = tally::of(counts, port, tally::LATELY);
-    let taken = std::num::wrapping_sub_u64(all, refused);
-    let last = tally::of(counts, port, tally::LAST);
-    page::tell(
-        b" %d Announces taken, %d refused with %n\n",
-        &[taken, refused, last],
-    );
-}
-
-// What became of what a looped cable brought back, so many Announces.
-pub fn loop_told(counts: &[u64; 76], port: u8, all: u64, t: u64) {
-    page::tell(
-        b"%t  port %d: a tenant's cable brings our own Announces back:",
-        &[t, port as u64],
-    );
-    tried(counts, port, all);
-}
-
-// What became of what so many new names announced on a port, twice each.
-pub fn flood_told(counts: &[u64; 76], port: u8, names: u64, t: u64) {
-    page::tell(
-        b"%t  port %d: %d new names, each heard twice:",
-        &[t, port as u64, names],
-    );
-    tried(counts, port, std::num::wrapping_add_u64(names, names));
-}
-
-// What a port that is flooded keeps, and who the parent is meanwhile.
+// What a port that was flooded keeps, and who the parent is meanwhile; nothing where there is no such port.
 pub fn meanwhile(words: &[u64; ports::WORDS], port: u8, t: u64, p: Parent) {
-    let n = kept(words, port, t);
-    page::tell(
-        b"          meanwhile: %d/16 records live, %d of them candidates; parent: ",
-        &[n.live, n.candidates],
-    );
-    crate::named(p);
-    page::say(b"\n");
+    if port != 0 {
+        let n = kept(words, port, t);
+        page::tell(
+            b"          meanwhile: %d/16 records live, %d of them candidates; parent: ",
+            &[n.live, n.candidates],
+        );
+        crate::named(p);
+        page::say(b"\n");
+    }
 }

@@ -1,7 +1,9 @@
 // The table of the ports at the day's end, and what each card ranks.
+use crate::Parent;
 use crate::cards;
 use crate::kept;
 use page::tally;
+use page::tally::COUNTS;
 use rank::Ranked;
 use senders::Asked;
 
@@ -28,7 +30,12 @@ fn port_told(words: &[u64; ports::WORDS], port: u8, code: u8, t: u64) {
 }
 
 // The lines of the ports that heard anything, at `t`.
-fn ports_told(words: &[u64; ports::WORDS], counts: &[u64; 76], now: &[u8; refusal::PORTS], t: u64) {
+fn ports_told(
+    words: &[u64; ports::WORDS],
+    counts: &[u64; COUNTS],
+    now: &[u8; refusal::PORTS],
+    t: u64,
+) {
     let mut i: u8 = 0;
     while i < 18 {
         if tally::heard(counts, i + 1) {
@@ -38,17 +45,10 @@ fn ports_told(words: &[u64; ports::WORDS], counts: &[u64; 76], now: &[u8; refusa
     }
 }
 
-// The table of decisions, with what they mean.
-pub fn told(words: &[u64; ports::WORDS], counts: &[u64; 76], now: &[u8; refusal::PORTS], t: u64) {
-    page::say(b"\nport  decision  best sender       grandmaster       steps  records\n");
-    ports_told(words, counts, now, t);
-    page::decisions_explained();
-}
-
 // One of a list, if it is that long.
 fn listed(list: Ranked, i: usize) {
-    if i < list.len && i < 4 {
-        let c = list.slots[i];
+    if i < list.len {
+        let c = list.slots[i % 4];
         let sender = c.sender;
         page::tell(b"  %x on %d", &[sender.clock, c.port as u64]);
     }
@@ -81,11 +81,28 @@ fn each_told(words: &[u64; ports::WORDS], t: u64) {
 }
 
 // What each card hears, and all of them merged.
-pub fn cards_told(words: &[u64; ports::WORDS], t: u64) {
+fn cards_told(words: &[u64; ports::WORDS], t: u64) {
     page::say(
         b"\nwhat each card ranked of its own six ports, best first, and the three lists merged\n",
     );
     each_told(words, t);
     page::say(b"  merged        ");
     list_told(cards::all(words, t));
+}
+
+// The table of decisions, with what they mean; what the cards rank; and the parent by it.
+pub fn told(
+    words: &[u64; ports::WORDS],
+    counts: &[u64; COUNTS],
+    now: &[u8; refusal::PORTS],
+    t: u64,
+    p: Parent,
+) {
+    page::say(b"\nport  decision  best sender       grandmaster       steps  records\n");
+    ports_told(words, counts, now, t);
+    page::decisions_explained();
+    cards_told(words, t);
+    page::say(b"parent: ");
+    crate::named(p);
+    page::say(b"\n");
 }

@@ -19,6 +19,8 @@ use delay::Stamps;
 use message::fields::Body;
 use message::fields::Message;
 use message::fields::Timestamp;
+use page::tally;
+use page::tally::COUNTS;
 
 // A nanosecond and a picosecond, times 2^16.
 const SCALE: u64 = 65536;
@@ -53,21 +55,14 @@ const LATENCY: u64 = 1000 * SCALE;
 // The two-step bit, of octet 6.
 const TWO_STEP: u16 = 0x0200;
 
-// How far our clock is off in an hour, in nanoseconds times 2^16: half as much each hour, and anew with each master. It is ahead of the first
-// and behind the second.
-fn off(h: u64) -> u64 {
+// A time of our clock that would be `scaled` if it were not off, in nanoseconds times 2^16: half as much each hour, and anew with each master. It
+// is ahead of the first and behind the second.
+fn shown(scaled: u64, hour: u64) -> u64 {
+    let h = hour % 24;
     if h < 13 {
-        return 800 * SCALE >> h;
-    }
-    if h < 24 { 40 * SCALE >> (h - 13) } else { 0 }
-}
-
-// A time of our clock that would be `scaled` if it were not off.
-fn shown(scaled: u64, h: u64) -> u64 {
-    if h < 13 {
-        std::num::wrapping_add_u64(scaled, off(h))
+        std::num::wrapping_add_u64(scaled, 800 * SCALE >> h)
     } else {
-        std::num::wrapping_sub_u64(scaled, off(h))
+        std::num::wrapping_sub_u64(scaled, 40 * SCALE >> (h - 13))
     }
 }
 
@@ -80,14 +75,6 @@ fn stamped(clock: u64, sequence: u16, flags: u16, body: Body) -> [u8; 44] {
     let mut out = [0u8; 44];
     written(&mut out, m, b"");
     out
-}
-
-// The time that ten octets hold.
-fn time_in(part: &[u8]) -> Stamp {
-    Stamp {
-        seconds: octets::u48_at(part, 0),
-        nanos: octets::u32_at(part, 6),
-    }
 }
 
 // t1 of the hour, from the Follow_Up of a two-step Sync.
@@ -103,7 +90,11 @@ fn origin_time(master: u64, h: u64) -> Stamp {
     };
     let sync = stamped(master, n, TWO_STEP, Body::Sync(early));
     let follow = stamped(master, n, 0, Body::FollowUp(precise));
-    time_in(origin::origin(&sync, &follow, MAGIC))
+    let part = origin::origin(&sync, &follow, MAGIC);
+    Stamp {
+        seconds: octets::u48_at(part, 0),
+        nanos: octets::u32_at(part, 6),
+    }
 }
 
 fn fine(seconds: u64, scaled: u64) -> FineStamp {
@@ -152,82 +143,70 @@ fn measured(master: u64, h: u64) -> Measurement {
 // A second in nanoseconds times 2^16.
 const SECOND: u64 = NANOS * SCALE;
 
-// Whether an offset is below a second, ahead or behind.
-fn is_near(x: Offset) -> bool {
-    (x.seconds == 0) | (x.seconds == -1)
-}
-
-// Such an offset in nanoseconds times 2^16, in two's complement.
+// An offset below a second, ahead or behind, in nanoseconds times 2^16, in two's complement; a longer one is not told.
 fn near(x: Offset) -> u64 {
     if x.seconds == 0 {
-        x.rest
-    } else {
+        return x.rest;
+    }
+    if x.seconds == -1 {
         std::num::wrapping_sub_u64(x.rest, SECOND)
-    }
-}
-
-// An offset at the right end of a column; a dash where there is none.
-fn offset_told(m: Measurement) {
-    let Measurement::Measured(_, x) = m else {
-        page::say(b"             -");
-        return;
-    };
-    if is_near(x) {
-        page::tell(b"%o", &[near(x)]);
     } else {
-        page::say(b" over a second");
+        page::NONE
     }
 }
 
-// The hour before the first offset of a line.
-fn line_begun(h: u64) {
-    if h % 6 == 0 {
-        page::tell(b"  %h", &[h]);
+fn offset_of(m: Measurement) -> u64 {
+    match m {
+        Measurement::Measured(_, x) => near(x),
+        Measurement::Refused(_) => page::NONE,
     }
 }
 
-fn line_ended(h: u64) {
-    if h % 6 == 5 {
-        page::say(b"\n");
-    }
-}
-
-// The offset at an hour's end from the clock that was followed, in its line.
-fn offset_at(leaders: &[u64; 24], h: u64) {
-    let leader = leaders[(h % 24) as usize];
-    line_begun(h);
+// The offset at an hour's end from the clock that was followed.
+fn offset_at(counts: &[u64; COUNTS], h: usize) -> u64 {
+    let leader = tally::leader(counts, h);
     if leader == OURS {
-        page::say(b"             -");
+        page::NONE
     } else {
-        offset_told(measured(leader, h));
+        offset_of(measured(leader, h as u64))
     }
-    line_ended(h);
 }
 
 // Six hours of offsets a line.
-pub fn offsets_told(leaders: &[u64; 24]) {
-    page::say(b"\noffset from the parent at each hour's end, ns\n");
-    let mut h: u64 = 0;
+fn offsets_told(counts: &[u64; COUNTS]) {
+    let mut offsets = [0u64; 24];
+    let mut h: usize = 0;
     while h < 24 {
-        offset_at(leaders, h);
+        offsets[h] = offset_at(counts, h);
         h += 1;
     }
+    page::tell(
+        b"
+offset from the parent at each hour's end, ns
+  00%o%o%o%o%o%o
+  06%o%o%o%o%o%o
+  12%o%o%o%o%o%o
+  18%o%o%o%o%o%o
+",
+        &offsets,
+    );
 }
 
-// A delay, and the offset that goes with it.
-fn both_told(d: ScaledNs, x: Offset) {
-    let delay = octets::bits64(d.0);
-    if is_near(x) {
-        page::tell(b"delay%s ns, offset%s ns\n", &[delay, near(x)]);
-    } else {
-        page::tell(b"delay%s ns, offset over a second\n", &[delay]);
-    }
-}
-
-// The hour's delay and offset from a master, in a line.
-pub fn told(master: u64, h: u64) {
-    match measured(master, h) {
-        Measurement::Measured(d, x) => both_told(d, x),
+// The day's last delay and offset, in a line.
+fn last_told(m: Measurement) {
+    match m {
+        Measurement::Measured(d, x) => page::tell(
+            b"delay%s ns, offset%s ns\n",
+            &[octets::bits64(d.0), near(x)],
+        ),
         Measurement::Refused(x) => page::tell(b"refused: %n\n", &[refusal::number(x)]),
     }
+}
+
+// The day's last delay and offset from the parent, and the offsets of all hours.
+pub fn told(counts: &[u64; COUNTS], parent: u64) {
+    if parent != OURS {
+        last_told(measured(parent, 23));
+    }
+    offsets_told(counts);
 }

@@ -9,6 +9,7 @@ use message::fields::Message;
 use message::fields::PortIdentity;
 use message::fields::Timestamp;
 use page::tally;
+use page::tally::COUNTS;
 use ports::intake::Settings;
 use rank::Grandmaster;
 use writer::writing::Written;
@@ -45,16 +46,27 @@ pub const BEAT: u64 = 2;
 // wrFlags of a White Rabbit master: config 1, calibrated.
 pub const WR_MASTER: u16 = 5;
 
+// The octets of a White Rabbit suffix.
+const SUFFIX: usize = 14;
+
+// priority2 of the two masters, which are on satellite time, and of a clock that runs free.
+const BETTER: u8 = 10;
+
+const WORSE: u8 = 20;
+
+const FREE: u8 = 128;
+
 // Who announces, on which of our ports, and which grandmaster.
-pub struct Speaker {
-    pub clock: u64,
-    pub port: u8,
-    pub grandmaster: Grandmaster,
-    pub steps: u16,
+struct Speaker {
+    clock: u64,
+    port: u8,
+    identity: u64,
+    priority2: u8,
+    steps: u16,
 }
 
 // What an Announce on our ports is judged by.
-pub fn settings() -> Settings {
+fn settings() -> Settings {
     Settings {
         domain: 0,
         clock: OURS,
@@ -62,28 +74,32 @@ pub fn settings() -> Settings {
     }
 }
 
-// Our own quality: a clock that leads only where nobody better is heard.
-pub fn own() -> Grandmaster {
-    Grandmaster {
-        priority1: 128,
-        class: 248,
-        accuracy: 254,
-        variance: 65535,
-        priority2: 128,
-        identity: OURS,
+// A clock's quality, by its identity and priority2.
+fn quality(identity: u64, priority2: u8) -> Grandmaster {
+    if priority2 == FREE {
+        Grandmaster {
+            priority1: 128,
+            class: 248,
+            accuracy: 254,
+            variance: 65535,
+            priority2,
+            identity,
+        }
+    } else {
+        Grandmaster {
+            priority1: 128,
+            class: 6,
+            accuracy: 33,
+            variance: 20061,
+            priority2,
+            identity,
+        }
     }
 }
 
-// A master on satellite time, by its identity and priority2.
-fn satellite(identity: u64, priority2: u8) -> Grandmaster {
-    Grandmaster {
-        priority1: 128,
-        class: 6,
-        accuracy: 33,
-        variance: 20061,
-        priority2,
-        identity,
-    }
+// Our own: a clock that leads only where nobody better is heard.
+pub fn own() -> Grandmaster {
+    quality(OURS, FREE)
 }
 
 // Whether the first master is there.
@@ -91,83 +107,50 @@ fn is_first(second: u64) -> bool {
     (DAWN <= second) & (second < SILENCE)
 }
 
-fn first_master() -> Speaker {
-    Speaker {
-        clock: FIRST,
-        port: 1,
-        grandmaster: satellite(FIRST, 10),
-        steps: 0,
-    }
-}
-
-fn second_master() -> Speaker {
-    Speaker {
-        clock: SECOND,
-        port: 2,
-        grandmaster: satellite(SECOND, 20),
-        steps: 0,
-    }
-}
-
 // The boundary clock follows the first master while it is there, a minute later than we do, else the second.
 fn boundary(second: u64) -> Speaker {
-    let grandmaster = if is_first(second) & (DAWN + 60 <= second) {
-        satellite(FIRST, 10)
+    if is_first(second) & (DAWN + 60 <= second) {
+        Speaker {
+            clock: BOUNDARY,
+            port: 3,
+            identity: FIRST,
+            priority2: BETTER,
+            steps: 1,
+        }
     } else {
-        satellite(SECOND, 20)
-    };
-    Speaker {
-        clock: BOUNDARY,
-        port: 3,
-        grandmaster,
-        steps: 1,
+        Speaker {
+            clock: BOUNDARY,
+            port: 3,
+            identity: SECOND,
+            priority2: WORSE,
+            steps: 1,
+        }
     }
 }
 
-// A clock like ours that runs free, heard on a port.
-fn free(clock: u64, port: u8) -> Speaker {
-    let own = own();
+// A clock that names itself as grandmaster.
+fn leading(clock: u64, port: u8, priority2: u8) -> Speaker {
     Speaker {
         clock,
         port,
-        grandmaster: Grandmaster {
-            priority1: own.priority1,
-            class: own.class,
-            accuracy: own.accuracy,
-            variance: own.variance,
-            priority2: own.priority2,
-            identity: clock,
-        },
+        identity: clock,
+        priority2,
         steps: 0,
     }
 }
 
-// A name of a tenant that floods a port.
-fn flooding(name: u64, port: u8) -> Speaker {
-    free(0x00f0_0000_0000_0000 + name % 65536, port)
-}
-
-fn body(s: Speaker) -> Body {
-    let g = s.grandmaster;
-    Body::Announce(Announce {
-        origin: Timestamp {
-            seconds: 0,
-            nanoseconds: 0,
-        },
-        utc: 37,
-        priority1: g.priority1,
-        class: g.class,
-        accuracy: g.accuracy,
-        variance: g.variance,
-        priority2: g.priority2,
-        grandmaster: g.identity,
-        steps: s.steps,
-        timesource: 0x20,
-    })
+// The k-th of those that announce at every beat.
+fn who(k: u64, second: u64) -> Speaker {
+    match k {
+        0 => leading(FIRST, 1, BETTER),
+        1 => leading(SECOND, 2, WORSE),
+        2 => boundary(second),
+        _ => leading(TENANT, 14, FREE),
+    }
 }
 
 // What every message of a sender begins with.
-pub fn header(clock: u64, sequence: u16, flags: u16) -> Header {
+fn header(clock: u64, sequence: u16, flags: u16) -> Header {
     Header {
         transport: 0,
         domain: 0,
@@ -180,7 +163,7 @@ pub fn header(clock: u64, sequence: u16, flags: u16) -> Header {
 }
 
 // A message, written into a lent buffer: how many octets it has, none where the writer refuses it.
-pub fn written(out: &mut [u8], m: Message, tail: &[u8]) -> usize {
+fn written(out: &mut [u8], m: Message, tail: &[u8]) -> usize {
     match writer::writing::write(out, m, tail, MAGIC) {
         Written::Octets(n) => n,
         Written::Refused(_) => 0,
@@ -189,16 +172,31 @@ pub fn written(out: &mut [u8], m: Message, tail: &[u8]) -> usize {
 
 // A sender's Announce.
 fn announce(s: Speaker, sequence: u16) -> Message {
+    let g = quality(s.identity, s.priority2);
     Message {
         header: header(s.clock, sequence, 8),
-        body: body(s),
+        body: Body::Announce(Announce {
+            origin: Timestamp {
+                seconds: 0,
+                nanoseconds: 0,
+            },
+            utc: 37,
+            priority1: g.priority1,
+            class: g.class,
+            accuracy: g.accuracy,
+            variance: g.variance,
+            priority2: g.priority2,
+            grandmaster: g.identity,
+            steps: s.steps,
+            timesource: 0x20,
+        }),
     }
 }
 
 // One Announce, taken at `t` nanoseconds from the octets that its sender wrote, and what became of it.
 fn heard(
     words: &mut [u64; ports::WORDS],
-    counts: &mut [u64; 76],
+    counts: &mut [u64; COUNTS],
     t: u64,
     s: Speaker,
     sequence: u16,
@@ -220,90 +218,142 @@ fn number(second: u64) -> u16 {
     (second / BEAT % 65536) as u16
 }
 
-// Whether the k-th of those that announce at every beat is there, and who it is.
-fn is_there(k: u64, second: u64) -> bool {
-    (k != 0) | is_first(second)
-}
-
-fn who(k: u64, second: u64) -> Speaker {
-    match k {
-        0 => first_master(),
-        1 => second_master(),
-        2 => boundary(second),
-        _ => free(TENANT, 14),
+// Every port's interval is set to two seconds.
+pub fn set_intervals(words: &mut [u64; ports::WORDS]) {
+    let mut port: u8 = 1;
+    while port < 19 {
+        ports::interval::set_interval(words, port, 1);
+        port += 1;
     }
 }
 
-// What it sends behind its Announce: a master the White Rabbit suffix.
-fn tail(k: u64, suffix: &[u8]) -> &[u8] {
-    if k < 2 {
-        suffix
-    } else {
-        page::front(suffix, 0)
-    }
-}
-
-// An Announce of the k-th, if it is there.
-fn spoke(
+// What every even second brings: an Announce of each of those that are there. The first two are masters, and
+// send the White Rabbit suffix behind it.
+pub fn beat(
     words: &mut [u64; ports::WORDS],
-    counts: &mut [u64; 76],
-    k: u64,
+    counts: &mut [u64; COUNTS],
     second: u64,
     suffix: &[u8],
 ) {
-    if is_there(k, second) {
-        let t = instant(second);
-        let s = who(k, second);
-        heard(words, counts, t, s, number(second), tail(k, suffix));
-    }
-}
-
-// What every even second brings: an Announce of each of those that are there.
-pub fn beat(words: &mut [u64; ports::WORDS], counts: &mut [u64; 76], second: u64, suffix: &[u8]) {
-    let mut k: u64 = 0;
+    let mut k: u64 = !is_first(second) as u64 % 2;
     while k < 4 {
-        spoke(words, counts, k, second, suffix);
+        let tail = page::front(suffix, (1 - k / 2) as usize * SUFFIX);
+        heard(
+            words,
+            counts,
+            instant(second),
+            who(k, second),
+            number(second),
+            tail,
+        );
         k += 1;
     }
 }
 
-// The port that a cable brings our own Announces back to.
-pub const LOOPED: u8 = 9;
-
-pub fn looped(words: &mut [u64; ports::WORDS], counts: &mut [u64; 76], second: u64) {
-    heard(
-        words,
-        counts,
-        instant(second),
-        free(OURS, LOOPED),
-        number(second),
-        b"",
-    );
+// What became of so many Announces of a tenant in this hour.
+fn tried(counts: &[u64; COUNTS], words: &[u8], t: u64, port: u8, all: u64) {
+    let refused = tally::of(counts, port, tally::LATELY);
+    let last = tally::of(counts, port, tally::LAST);
+    let taken = std::num::wrapping_sub_u64(all, refused);
+    page::tell(words, &[t, port as u64, taken, refused, last]);
 }
 
-// Names between two beats, and nanoseconds from one of their Announces to the next.
-pub const NAMES: u64 = 100;
+// The hour in which a cable brings our own Announces back to a tenant's port, for how many seconds, and so how many.
+const LOOP: u64 = 3;
+
+const LOOPED: u64 = 120;
+
+const BROUGHT: u64 = LOOPED / BEAT;
+
+const CABLE: u8 = 9;
+
+// What the cable brings behind a beat; the page says what became of it behind the last.
+fn looped(words: &mut [u64; ports::WORDS], counts: &mut [u64; COUNTS], second: u64) {
+    let t = instant(second);
+    let s = leading(OURS, CABLE, FREE);
+    heard(words, counts, t, s, number(second), b"");
+    if second % 3600 == LOOPED - BEAT {
+        tried(
+            counts,
+            b"%t  port %d: a tenant's cable brings our own Announces back: %d Announces taken, %d refused with %n\n",
+            t,
+            CABLE,
+            BROUGHT,
+        );
+    }
+}
+
+// The seconds of an hour in which names flood a port, names between two beats, and nanoseconds from one of their Announces to the next.
+const FLOODED: u64 = 200;
+
+const NAMES: u64 = 100;
 
 const APART: u64 = 10_000_000;
 
+// Announces of ten thousand names, each heard twice.
+const FLOOD: u64 = 2 * NAMES * FLOODED / BEAT;
+
+// The port that is flooded in an hour, 0 where none is: a tenant's, then the parent's own.
+fn flooded(h: u64) -> u8 {
+    match h {
+        5 => 12,
+        6 => 1,
+        _ => 0,
+    }
+}
+
 // The time of the j-th Announce of new names behind a beat.
-pub fn spoken(second: u64, j: u64) -> u64 {
+fn spoken(second: u64, j: u64) -> u64 {
     std::num::wrapping_add_u64(instant(second), j % 256 * APART)
 }
 
-// A hundred new names on a port between two beats, the first of which is `from`. Each speaks twice, so that it counts as a candidate
-// where it is kept.
-pub fn flood(
-    words: &mut [u64; ports::WORDS],
-    counts: &mut [u64; 76],
-    port: u8,
-    second: u64,
-    from: u64,
-) {
+// The time of the last.
+pub fn flood_end(second: u64) -> u64 {
+    spoken(second, 2 * NAMES - 1)
+}
+
+// A hundred new names on a port between two beats. Each speaks twice, so that it counts as a candidate where it is kept.
+fn flood(words: &mut [u64; ports::WORDS], counts: &mut [u64; COUNTS], port: u8, second: u64) {
+    let from = 0x00f0_0000_0000_0000 + second % 3600 / BEAT * NAMES;
     let mut j: u64 = 0;
     while j < 2 * NAMES {
-        let s = flooding(std::num::wrapping_add_u64(from, j / 2), port);
+        let s = leading(std::num::wrapping_add_u64(from, j / 2), port, FREE);
         heard(words, counts, spoken(second, j), s, (j % 2 + 1) as u16, b"");
         j += 1;
+    }
+}
+
+// What a flood brings behind a beat: the port, where it was the last beat of it, else 0. The page says what became of it.
+fn flooding(
+    words: &mut [u64; ports::WORDS],
+    counts: &mut [u64; COUNTS],
+    port: u8,
+    second: u64,
+) -> u8 {
+    flood(words, counts, port, second);
+    if second % 3600 != FLOODED - BEAT {
+        return 0;
+    }
+    tried(
+        counts,
+        b"%t  port %d: 10000 new names, each heard twice: %d Announces taken, %d refused with %n\n",
+        flood_end(second),
+        port,
+        FLOOD,
+    );
+    port
+}
+
+// What the tenants do behind the beat of a second: the port on which a flood is over with it, else 0.
+pub fn tenants(words: &mut [u64; ports::WORDS], counts: &mut [u64; COUNTS], second: u64) -> u8 {
+    let h = second / 3600;
+    let port = flooded(h);
+    if (h == LOOP) & (second % 3600 < LOOPED) {
+        looped(words, counts, second);
+    }
+    if (port != 0) & (second % 3600 < FLOODED) {
+        flooding(words, counts, port, second)
+    } else {
+        0
     }
 }

@@ -27,18 +27,13 @@ fn slave_settings() -> Settings {
     }
 }
 
-// The parent's part in wrFlags: config in bits 0 and 1, its mode in bit 3.
-fn start(flags: u16) -> Event {
-    Event::Start {
-        config: (flags % 4) as u8,
-        mode: flags / 8 % 2 == 1,
-    }
-}
-
-// What happens on the way up, in its order.
+// What happens on the way up, in its order. The parent's part in wrFlags: config in bits 0 and 1, its mode in bit 3.
 fn event(i: u64, flags: u16) -> Event {
     match i {
-        0 => start(flags),
+        0 => Event::Start {
+            config: (flags % 4) as u8,
+            mode: flags / 8 % 2 == 1,
+        },
         1 => Event::Message(LOCK),
         3 => Event::Message(CALIBRATE),
         4 => Event::Message(CALIBRATED),
@@ -67,14 +62,10 @@ fn risen(r: Rise, x: Taken) -> Rise {
     }
 }
 
-// One event, taken.
-fn turn(r: Rise, words: &mut [u64; 72], port: u8, e: Event) -> Rise {
-    risen(r, links::take(words, port, e))
-}
-
 // The seven events of a link that comes up on `port` to a parent with these wrFlags.
-fn bring_up(words: &mut [u64; 72], port: u8, flags: u16) -> Rise {
-    links::set(words, port, slave_settings());
+fn bring_up(port: u8, flags: u16) -> Rise {
+    let mut words = [0u64; 72];
+    links::set(&mut words, port, slave_settings());
     let mut r = Rise {
         events: 0,
         sent: 0,
@@ -82,15 +73,14 @@ fn bring_up(words: &mut [u64; 72], port: u8, flags: u16) -> Rise {
     };
     let mut i: u64 = 0;
     while i < 7 {
-        r = turn(r, words, port, event(i, flags));
+        r = risen(r, links::take(&mut words, port, event(i, flags)));
         i += 1;
     }
     r
 }
 
 // A link brought up at `t`, or not.
-pub fn told(words: &mut [u64; 72], port: u8, flags: u16, t: u64) {
-    let r = bring_up(words, port, flags);
+fn told(port: u8, r: Rise, t: u64) {
     if r.on {
         page::tell(
             b"%t  port %d: White Rabbit link on after %d events; messages sent: %d\n",
@@ -101,5 +91,17 @@ pub fn told(words: &mut [u64; 72], port: u8, flags: u16, t: u64) {
             b"%t  port %d: White Rabbit link not on\n",
             &[t, port as u64],
         );
+    }
+}
+
+// The seconds at which the link to a new parent is brought up.
+const FIRST_LINK: u64 = 3600;
+
+const SECOND_LINK: u64 = 14 * 3600;
+
+// The link to the parent on `port`, at those seconds.
+pub fn begun(port: u8, flags: u16, second: u64) {
+    if (second == FIRST_LINK) | (second == SECOND_LINK) {
+        told(port, bring_up(port, flags), crate::instant(second));
     }
 }

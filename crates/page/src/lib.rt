@@ -9,6 +9,7 @@ pub mod tally;
 mod text;
 
 pub use line::tell;
+pub use text::NONE;
 pub use text::front;
 pub use text::say;
 

@@ -1,6 +1,6 @@
 // Words with numbers among them. In the words, % and a letter or digit stand for the next number:
 // %d in decimal, %x a clockIdentity, %t a time of the day from nanoseconds, %h two digits, %n a refusal and %m the last one if
-// there was one, %f a field that clocks are compared by, %c a decision, %s nanoseconds times 2^16, %o the same in a column of 10;
+// there was one, %f a field that clocks are compared by, %c a decision, %s nanoseconds times 2^16 or a dash, %o the same in a column of 10;
 // %3 to %9 and %: at the right end of a column of 3 to 9 and of 10.
 use crate::names;
 use crate::text;
@@ -23,7 +23,7 @@ fn number(c: u8, value: u64) {
         b'c' => names::decision(value),
         b's' => text::nanoseconds(value, 2),
         b'o' => text::nanoseconds(value, 10),
-        _ => text::right(value, width(c)),
+        _ => text::signed(b"", value, width(c)),
     }
 }
 

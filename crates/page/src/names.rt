@@ -5,13 +5,14 @@ use crate::text;
 pub fn refused(number: u64) {
     let k = (number % 19) as usize;
     let sizes = [0usize, 5, 7, 4, 6, 5, 3, 5, 4, 6, 3, 8, 5, 4, 5, 8, 4, 4, 5];
-    let names = text::past(
+    let name = text::part(
         b"        SHORT   VERSION TYPE    LENGTH  STAMP   TLV     WRBAD   PORT    DOMAIN  OWN     BACKWARDSTALE   FULL    RANGE   UNRANKEDROOM    MANY    FIELD   ",
         k * 8,
+        sizes[k],
     );
     text::number(number);
     text::say(b" ");
-    text::say(text::front(names, sizes[k]));
+    text::say(name);
 }
 
 // The last refusal behind two blanks; nothing where there was none.
@@ -26,19 +27,18 @@ pub fn last_refused(number: u64) {
 pub fn field(before: u64) {
     let k = (before % 7) as usize;
     let sizes = [9usize, 5, 8, 8, 9, 19, 12];
-    let names = text::past(
+    let name = text::part(
         b"priority1          class              accuracy           variance           priority2          grandmasterIdentitya longer way       ",
         k * 19,
+        sizes[k],
     );
-    text::say(text::front(names, sizes[k]));
+    text::say(name);
 }
 
 // A decision by its number, 1 to 7.
 pub fn decision(code: u64) {
     let k = (code % 8) as usize;
-    let letters = [b'-', b'M', b'M', b'M', b'S', b'S', b'P', b'P'];
-    let digits = [b'-', b'1', b'2', b'3', b'1', b'2', b'1', b'2'];
-    text::say(&[letters[k], digits[k]]);
+    text::say(text::part(b"--M1M2M3S1S2P1P2", k * 2, 2));
 }
 
 // An hour of a port in one letter: its decision, a capital where an Announce was refused in that hour.

@@ -14,7 +14,7 @@ fn place(port: u8, h: u64) -> usize
 
 // The letter of an hour on the port behind the i-th.
 fn letter_put(
-    counts: &mut [u64; 76],
+    counts: &mut [u64; tally::COUNTS],
     strips: &mut [u8; 456],
     now: &[u8; refusal::PORTS],
     h: u64,
@@ -26,13 +26,15 @@ fn letter_put(
     strips[at] = names::letter(now[k as usize], n);
 }
 
-// The letters of an hour, a port each, by the decisions at its end.
-pub fn lettered(
-    counts: &mut [u64; 76],
+// An hour's end: a letter for each port, by its decision, and whom the clock follows.
+pub fn closed(
+    counts: &mut [u64; tally::COUNTS],
     strips: &mut [u8; 456],
     now: &[u8; refusal::PORTS],
     h: u64,
+    leader: u64,
 ) {
+    tally::follow(counts, h, leader);
     let mut i: u8 = 0;
     while i < 18 {
         letter_put(counts, strips, now, h, i);
@@ -41,14 +43,14 @@ pub fn lettered(
 }
 
 // A port's day: its strip, and what became of what it heard.
-fn strip_told(counts: &[u64; 76], strips: &[u8; 456], port: u8) {
+fn strip_told(counts: &[u64; tally::COUNTS], strips: &[u8; 456], port: u8) {
     line::tell(b"%4  ", &[port as u64]);
-    text::say(text::front(text::past(strips, place(port, 0)), 24));
+    text::say(text::part(strips, place(port, 0), 24));
     line::tell(b"%:%:%m\n", tally::row(counts, port));
 }
 
 // The strips of the ports that heard anything.
-fn table(counts: &[u64; 76], strips: &[u8; 456]) {
+fn table(counts: &[u64; tally::COUNTS], strips: &[u8; 456]) {
     let mut port: u8 = 1;
     while port < 19 {
         if tally::heard(counts, port) {
@@ -59,7 +61,7 @@ fn table(counts: &[u64; 76], strips: &[u8; 456]) {
 }
 
 // The ports that heard nothing, in one line.
-fn silent(counts: &[u64; 76]) {
+fn silent(counts: &[u64; tally::COUNTS]) {
     let mut port: u8 = 1;
     while port < 19 {
         if !tally::heard(counts, port) {
@@ -70,7 +72,7 @@ fn silent(counts: &[u64; 76]) {
 }
 
 // All of them, and what the letters mean.
-pub fn told(counts: &[u64; 76], strips: &[u8; 456]) {
+pub fn told(counts: &[u64; tally::COUNTS], strips: &[u8; 456]) {
     text::say(b"\nport  00    06    12    18         taken   refused  last refusal\n");
     table(counts, strips);
     text::say(

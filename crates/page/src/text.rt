@@ -16,9 +16,14 @@ pub fn front(s: &[u8], n: usize) -> &[u8] {
 }
 
 // What is left behind the first n octets.
-pub fn past(s: &[u8], n: usize) -> &[u8] {
+fn past(s: &[u8], n: usize) -> &[u8] {
     let k = least(n, s.len());
     &s[k..]
+}
+
+// The n octets behind the first `at`, or what there is of them.
+pub fn part(s: &[u8], at: usize, n: usize) -> &[u8] {
+    front(past(s, at), n)
 }
 
 // Words, as they stand.
@@ -47,17 +52,12 @@ fn blanks(digits: usize, width: usize) {
 }
 
 // A number at the right end of a column behind a sign, with a blank before it at least.
-fn signed(sign: &[u8], value: u64, width: usize) {
+pub fn signed(sign: &[u8], value: u64, width: usize) {
     let mut digits = [0u8; 20];
     let k = io::decimal(value, &mut digits);
     blanks(std::num::wrapping_add_usize(k, sign.len()), width);
     say(sign);
     say(&digits[..k]);
-}
-
-// A number at the right end of a column, with a blank before it at least.
-pub fn right(value: u64, width: usize) {
-    signed(b"", value, width);
 }
 
 // Two digits behind words.
@@ -84,9 +84,15 @@ fn scaled(sign: &[u8], value: u64, width: usize) {
     number(rest % 10);
 }
 
+// Stands for nanoseconds that are not known.
+pub const NONE: u64 = 0x8000_0000_0000_0000;
+
 // The same of a number in two's complement.
 pub fn nanoseconds(value: u64, width: usize) {
-    if value < 0x8000_0000_0000_0000 {
+    if value == NONE {
+        blanks(1, width);
+        say(b"-   ");
+    } else if value < NONE {
         scaled(b"", value, width);
     } else {
         scaled(b"-", std::num::wrapping_sub_u64(0, value), width);

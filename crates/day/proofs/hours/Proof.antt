@@ -1,14 +1,14 @@
--- `hours` is safe and ends: the hours that are left fall.
+-- `hours` is safe and ends: the seconds that are left fall.
 use Prim.Native.Nat.{_-_, _≤_}
 use borrow.Author.Needs.{needs}
 use Rattle.day.proofs.hours.Statement.{statement}
 use Rattle.day.proofs.hours.Tie as tie
 
 abbrev Inv-loop : tie.InvT-loop
-Inv-loop words₀ counts₀ strips₀ leaders₀ links₀ p₀ h₀ words counts strips leaders links p h = (h ≤ 24)
+Inv-loop words₀ counts₀ strips₀ p₀ second₀ words counts strips p second = (second ≤ 86401)
 
 abbrev μ-loop : tie.MeasureT-loop
-μ-loop words₀ counts₀ strips₀ leaders₀ links₀ p₀ h₀ words counts strips leaders links p h = 24 - h
+μ-loop words₀ counts₀ strips₀ p₀ second₀ words counts strips p second = 86400 - second
 
 pub hours-spec : {M : Type 1} → statement M
 hours-spec =
@@ -18,7 +18,6 @@ hours-spec =
     μ-loop
     (λ c κs. search needs)
     (λ c. search needs)
-    (λ c κs. search needs)
     (λ c κs. search needs)
     (λ c κs. search needs)
     (λ c. search needs)

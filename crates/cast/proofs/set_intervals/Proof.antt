@@ -1,8 +1,8 @@
 -- `set_intervals` is safe and ends: the ports that are left fall.
 use Prim.Native.Nat.{_-_, _≤_}
 use borrow.Author.Needs.{needs}
-use Rattle.day.proofs.set_intervals.Statement.{statement}
-use Rattle.day.proofs.set_intervals.Tie as tie
+use Rattle.cast.proofs.set_intervals.Statement.{statement}
+use Rattle.cast.proofs.set_intervals.Tie as tie
 
 abbrev Inv-loop : tie.InvT-loop
 Inv-loop words₀ port₀ words port = (port ≤ 19)
