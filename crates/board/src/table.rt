@@ -7,26 +7,34 @@ use page::tally::COUNTS;
 use rank::Ranked;
 use senders::Asked;
 
-// The sender, grandmaster and steps of a port's best; dashes where it has none.
-fn best_told(best: Asked) {
+// A port's line: the decision, the sender, grandmaster and steps of its best, dashes where it has none, and how many records are
+// live.
+fn line_told(port: u8, code: u8, best: Asked, live: u64) {
     let Asked::Found(c) = best else {
-        page::say(b"        -                 -                     -");
+        page::tell(
+            b"%4  %c        -                 -                     -%6/16\n",
+            &[port as u64, code as u64, live],
+        );
         return;
     };
     let sender = c.sender;
     let grandmaster = c.grandmaster;
     page::tell(
-        b"        %x  %x%7",
-        &[sender.clock, grandmaster.identity, c.steps as u64],
+        b"%4  %c        %x  %x%7%6/16\n",
+        &[
+            port as u64,
+            code as u64,
+            sender.clock,
+            grandmaster.identity,
+            c.steps as u64,
+            live,
+        ],
     );
 }
 
-// A port's line: the decision, the best sender and how many records are live.
 fn port_told(words: &[u64; ports::WORDS], port: u8, code: u8, t: u64) {
     let n = kept::kept(words, port, t);
-    page::tell(b"%4  %c", &[port as u64, code as u64]);
-    best_told(ports::asking::best(words, port, t));
-    page::tell(b"%6/16\n", &[n.live]);
+    line_told(port, code, ports::asking::best(words, port, t), n.live);
 }
 
 // The lines of the ports that heard anything, at `t`.

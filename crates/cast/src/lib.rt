@@ -1,6 +1,6 @@
 // Who is heard on the day that the program `day` tells: two masters, a boundary clock, a tenant's own clock, a looped cable, and
 // tenants with endless new names. Each writes its Announces with the engine's own writer, and the clock takes them from the octets.
-// Beside it the slave port's exchange and its link. All of it is made up, so there is nothing that a contract could hold it to: its
+// Beside it the slave port's exchange. All of it is made up, so there is nothing that a contract could hold it to: its
 // functions are proved to end and to stay in bounds.
 use message::fields::Announce;
 use message::fields::Body;
@@ -15,7 +15,6 @@ use rank::Grandmaster;
 use writer::writing::Written;
 
 pub mod exchange;
-pub mod link_up;
 
 // Our own clock.
 pub const OURS: u64 = 0x00c0_ffee_0000_0001;

@@ -57,7 +57,7 @@ fn beat(
     second: u64,
     old: Parent,
 ) -> Parent {
-    cast::link_up::begun(old.port, old.flags, second);
+    rise::begun(old.port, old.flags, second);
     spoken(words, counts, second);
     let new = watched(words, old, cast::instant(second));
     let port = cast::tenants(words, counts, second);

@@ -22,12 +22,15 @@ pub fn heading() {
     );
 }
 
-// Below the table of decisions.
+// Below the table of decisions. A long text costs the check more than its lines do one by one.
 pub fn decisions_explained() {
     say(
-        b"S1 slave: follows the parent    S2 backup: hears the parent's grandmaster by another way, and is in the ranked list of four
-M1 M2 master: our own clock leads (M1 where our class is 1 to 127)    M3 master: the parent is heard on another port
-P1 passive: our class is 1 to 127 and the port hears a better clock    P2 passive: as S2, but not in the list
-",
+        b"S1 slave: follows the parent    S2 backup: hears the parent's grandmaster by another way, and is in the ranked list of four\n",
+    );
+    say(
+        b"M1 M2 master: our own clock leads (M1 where our class is 1 to 127)    M3 master: the parent is heard on another port\n",
+    );
+    say(
+        b"P1 passive: our class is 1 to 127 and the port hears a better clock    P2 passive: as S2, but not in the list\n",
     );
 }

@@ -71,16 +71,25 @@ fn silent(counts: &[u64; tally::COUNTS]) {
     }
 }
 
-// All of them, and what the letters mean.
+// What the letters and the refusals mean.
+fn explained() {
+    text::say(
+        b"a letter an hour: s follows the parent, b backup, m master, p passive; a capital where Announces were refused in that hour\n",
+    );
+    text::say(
+        b"refusals: 9 DOMAIN another domain, 10 OWN our own clock, 11 BACKWARD the time runs back, 12 STALE sequenceId not newer,\n",
+    );
+    text::say(
+        b"          13 FULL a new name and sixteen live records; 1 to 7: not a message that can be read\n",
+    );
+}
+
+// All of them, and what they mean.
 pub fn told(counts: &[u64; tally::COUNTS], strips: &[u8; 456]) {
     text::say(b"\nport  00    06    12    18         taken   refused  last refusal\n");
     table(counts, strips);
-    text::say(
-        b"a letter an hour: s follows the parent, b backup, m master, p passive; a capital where Announces were refused in that hour
-refusals: 9 DOMAIN another domain, 10 OWN our own clock, 11 BACKWARD the time runs back, 12 STALE sequenceId not newer,
-          13 FULL a new name and sixteen live records; 1 to 7: not a message that can be read
-ports that heard nothing:",
-    );
+    explained();
+    text::say(b"ports that heard nothing:");
     silent(counts);
     text::say(b"\n");
 }

@@ -1,8 +1,8 @@
--- `link_up::bring_up` is safe and ends: the events that are left fall.
+-- `bring_up` is safe and ends: the events that are left fall.
 use Prim.Native.Nat.{_-_, _≤_}
 use borrow.Author.Needs.{needs}
-use Rattle.cast.proofs.link_up.bring_up.Statement.{statement}
-use Rattle.cast.proofs.link_up.bring_up.Tie as tie
+use Rattle.rise.proofs.bring_up.Statement.{statement}
+use Rattle.rise.proofs.bring_up.Tie as tie
 
 abbrev Inv-loop : tie.InvT-loop
 Inv-loop port flags words₀ r₀ i₀ words r i = (i ≤ 7)

@@ -1,4 +1,6 @@
-// A White Rabbit link coming up on the slave's side: each event is taken by the engine, and what it sends is counted.
+// A White Rabbit link coming up on the slave's side, as the program `day` tells it: each event is taken by the engine, and what it
+// sends is counted. What happens is made up, so there is nothing that a contract could hold it to: its functions are proved to end
+// and to stay in bounds.
 use link::Event;
 use link::Sends;
 use link::Settings;
@@ -7,6 +9,9 @@ use tlv::form::CALIBRATE;
 use tlv::form::CALIBRATED;
 use tlv::form::LOCK;
 use tlv::form::MODE_ON;
+
+// The nanoseconds of a second.
+const NANOS: u64 = refusal::SECOND_NANOS as u64;
 
 // How a link came up.
 struct Rise {
@@ -95,13 +100,13 @@ fn told(port: u8, r: Rise, t: u64) {
 }
 
 // The seconds at which the link to a new parent is brought up.
-const FIRST_LINK: u64 = 3600;
+const FIRST: u64 = 3600;
 
-const SECOND_LINK: u64 = 14 * 3600;
+const SECOND: u64 = 14 * 3600;
 
 // The link to the parent on `port`, at those seconds.
 pub fn begun(port: u8, flags: u16, second: u64) {
-    if (second == FIRST_LINK) | (second == SECOND_LINK) {
-        told(port, bring_up(port, flags), crate::instant(second));
+    if (second == FIRST) | (second == SECOND) {
+        told(port, bring_up(port, flags), second % 86_400 * NANOS);
     }
 }
