@@ -20,7 +20,7 @@ pub mod exchange;
 pub const OURS: u64 = 0x00c0_ffee_0000_0001;
 
 // The magic of White Rabbit's TLVs.
-pub const MAGIC: u16 = 0xABCD;
+const MAGIC: u16 = 0xABCD;
 
 // The two masters, the boundary clock behind which either is heard, and a tenant's own clock.
 const FIRST: u64 = 0x00a1_0000_0000_0001;
@@ -41,9 +41,6 @@ const SILENCE: u64 = 13 * 3600;
 
 // Seconds from one Announce of a sender to its next; every port's interval is set to it.
 pub const BEAT: u64 = 2;
-
-// wrFlags of a White Rabbit master: config 1, calibrated.
-pub const WR_MASTER: u16 = 5;
 
 // The octets of a White Rabbit suffix.
 const SUFFIX: usize = 14;
@@ -226,14 +223,11 @@ pub fn set_intervals(words: &mut [u64; ports::WORDS]) {
     }
 }
 
-// What every even second brings: an Announce of each of those that are there. The first two are masters, and
-// send the White Rabbit suffix behind it.
-pub fn beat(
-    words: &mut [u64; ports::WORDS],
-    counts: &mut [u64; COUNTS],
-    second: u64,
-    suffix: &[u8],
-) {
+// What every even second brings: an Announce of each of those that are there. The first two are masters, and send the White Rabbit
+// suffix behind it, as it stands on the wire: type 3 with 10 octets, the OUI and MAGIC, version 1, 0x2000, and as wrFlags config 1,
+// calibrated.
+pub fn beat(words: &mut [u64; ports::WORDS], counts: &mut [u64; COUNTS], second: u64) {
+    let suffix = b"\x00\x03\x00\x0a\x08\x00\x30\xab\xcd\x01\x20\x00\x00\x05";
     let mut k: u64 = !is_first(second) as u64 % 2;
     while k < 4 {
         let tail = page::front(suffix, (1 - k / 2) as usize * SUFFIX);

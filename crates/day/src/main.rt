@@ -43,13 +43,6 @@ fn watched(words: &[u64; ports::WORDS], old: Parent, t: u64) -> Parent {
     new
 }
 
-// Who is there speaks, the masters with their White Rabbit suffix.
-fn spoken(words: &mut [u64; ports::WORDS], counts: &mut [u64; COUNTS], second: u64) {
-    let suffix = wr_tlvs::suffix(cast::WR_MASTER, cast::MAGIC);
-    let octets = suffix.octets;
-    cast::beat(words, counts, second, page::front(&octets, suffix.size));
-}
-
 // The beat of a second: a link may begin, who is there speaks, the parent is asked for, and the tenants do what they do.
 fn beat(
     words: &mut [u64; ports::WORDS],
@@ -58,7 +51,7 @@ fn beat(
     old: Parent,
 ) -> Parent {
     rise::begun(old.port, old.flags, second);
-    spoken(words, counts, second);
+    cast::beat(words, counts, second);
     let new = watched(words, old, cast::instant(second));
     let port = cast::tenants(words, counts, second);
     board::kept::meanwhile(words, port, cast::flood_end(second), new);
