@@ -6,7 +6,7 @@
    For x86-64 Linux, without a C library, so that nothing else runs and is counted. */
 #include "hand.h"
 
-enum { PORT = 7, ROOM = 128, ANNOUNCE_OCTETS = 64, RUN = DZ_PORTS * DZ_SLOTS };
+enum { PORT = 7, ROOM = 128, ANNOUNCE_OCTETS = 64, RUN = DZ_PORTS * DZ_SLOTS, BURST = 64 };
 static const uint64_t second = 1000000000, own_clock = 1;
 static const uint16_t magic = DZ_EXAMPLE_MAGIC;
 
@@ -62,7 +62,8 @@ struct lent {
     uint64_t own[DZ_OWN_WORDS], set[DZ_SET_WORDS], rival[DZ_SET_WORDS], answer;
     uint64_t step[DZ_STEP_WORDS], exchange[DZ_EXCHANGE_WORDS], measured[DZ_MEASURED_WORDS];
     uint8_t announce[ANNOUNCE_OCTETS + DZ_SUFFIX_OCTETS], suffix[DZ_SUFFIX_OCTETS], out[ROOM], decisions[DZ_PORTS];
-    uint64_t length;
+    uint64_t length, burst[BURST][DZ_BURST_WORDS];
+    uint8_t ring[BURST][ANNOUNCE_OCTETS];
 };
 static struct lent fresh, lent[2];
 
@@ -124,6 +125,17 @@ static void flooded_port(struct lent *m)
 {
     plain(m);
     if (system_call(0, 0, m->ports, sizeof m->ports) != (long)sizeof m->ports) leave(2);
+}
+
+/* A ring of Announces of one sender, and the burst that they are. */
+static void full_ring(struct lent *m)
+{
+    plain(m);
+    for (uint64_t k = 0; k < BURST; k++) {
+        const uint64_t row[DZ_BURST_WORDS] = {PORT, 0, k * ANNOUNCE_OCTETS, ANNOUNCE_OCTETS, 0};
+        __builtin_memcpy(m->burst[k], row, sizeof row);
+        __builtin_memcpy(m->ring[k], m->announce, ANNOUNCE_OCTETS);
+    }
 }
 
 /* Two sets of one grandmaster, the second higher in one word; where that is of the quality, it is another grandmaster. */
@@ -199,6 +211,16 @@ static dz_answer take(struct lent *m, any_call *f, uint64_t t) { return CALL(tak
 static dz_answer take_one(struct lent *m, any_call *f, uint64_t i) { return rename(m, 0, (uint16_t)i), take(m, f, second + i); }
 static dz_answer take_sixteen(struct lent *m, any_call *f, uint64_t i) { return rename(m, i % DZ_SLOTS, (uint16_t)i), take(m, f, second + i); }
 static dz_answer take_new(struct lent *m, any_call *f, uint64_t i) { return rename(m, 1000000 + (uint32_t)i, (uint16_t)i), take(m, f, 2 * second + i); }
+static dz_answer take_burst(struct lent *m, any_call *f, uint64_t i)
+{
+    for (uint64_t k = 0; k < BURST; k++) {
+        uint16_t sequence = __builtin_bswap16((uint16_t)(i * BURST + k));
+        m->burst[k][DZ_BURST_TIME] = second + i * BURST + k;
+        __builtin_memcpy(m->ring[k] + 30, &sequence, sizeof sequence);
+    }
+    return CALL(take_burst, m->ports, m->ring[0], sizeof m->ring, m->burst, BURST, 0, own_clock, magic);
+}
+
 static dz_answer best(struct lent *m, any_call *f, uint64_t i) { return (void)i, CALL(best, m->ports, PORT, 2 * second, m->found); }
 static dz_answer compare(struct lent *m, any_call *f, uint64_t i) { return (void)i, CALL(compare, m->set, m->rival, &m->answer); }
 static dz_answer merge(struct lent *m, any_call *f, uint64_t i) { return (void)i, CALL(merge, m->a, m->b, m->list); }
@@ -230,6 +252,7 @@ static const struct row {
     {"walk-on", BOTH(walk), with_suffix, walk_on, DZ_OK},
     {"take-1", BOTH(take), plain, take_one, DZ_OK},
     {"take-16", BOTH(take), plain, take_sixteen, DZ_OK},
+    {"burst", BOTH(take_burst), full_ring, take_burst, DZ_OK},
     {"full", BOTH(take), full_port, take_new, DZ_REFUSED_FULL},
     {"flooded", BOTH(take), flooded_port, take_new, DZ_REFUSED_FULL},
     {"write", BOTH(write), plain, write, DZ_OK},

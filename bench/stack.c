@@ -12,6 +12,7 @@ static const uint64_t signaling[DZ_MESSAGE_WORDS] = {[DZ_M_TYPE] = DZ_SIGNALING}
 static const uint64_t exchange[DZ_EXCHANGE_WORDS] = {[DZ_E_T2_NANOS] = 510, [DZ_E_T3_NANOS] = 1000510, [DZ_E_T4_NANOS] = 1001000, [DZ_E_ASYMMETRY] = 1 << 20};
 static uint64_t ports[DZ_PORTS_WORDS], links[DZ_LINKS_WORDS], message[DZ_MESSAGE_WORDS] = {[DZ_M_TYPE] = DZ_ANNOUNCE, [DZ_M_CLOCK] = 9, [DZ_M_GRANDMASTER] = 9};
 static uint64_t run[RUN * DZ_CANDIDATE_WORDS], list[DZ_LIST_WORDS], words[DZ_LIST_WORDS], found[DZ_FOUND_WORDS], number, now;
+static uint64_t burst[1][DZ_BURST_WORDS] = {{[DZ_BURST_PORT] = PORT, [DZ_BURST_LENGTH] = 78}};
 static uint8_t announce[78], sync[44] = {[1] = 2, [3] = 44}, frame[64], out[128], suffix[DZ_SUFFIX_OCTETS], decisions[DZ_PORTS];
 
 static void call_version(void) { number = dz_version(); }
@@ -25,6 +26,7 @@ static void call_write(void) { dz_write(out, sizeof out, message, suffix, sizeof
 static void call_write_link(void) { dz_write_link(out, sizeof out, signaling, lock, magic, &number); }
 static void call_write_suffix(void) { dz_write_suffix(5, magic, suffix); }
 static void call_take(void) { announce[31]++, dz_take(ports, PORT, ++now, announce, sizeof announce, 0, own_clock, magic); }
+static void call_take_burst(void) { burst[0][DZ_BURST_TIME] = ++now, announce[31]++, dz_take_burst(ports, announce, sizeof announce, burst, 1, 0, own_clock, magic); }
 static void call_candidate(void) { dz_candidate(ports, PORT, 0, now, found); }
 static void call_best(void) { dz_best(ports, PORT, now, found); }
 static void call_status(void) { dz_status(ports, PORT, words); }
@@ -48,7 +50,7 @@ static void call_measure(void) { dz_measure(exchange, words); }
 #define CALL(name) {"dz_" #name, call_##name}
 static const struct { const char *name; void (*call)(void); } calls[] = {
     CALL(version), CALL(read), CALL(lookup), CALL(walk), CALL(suffix), CALL(link_message), CALL(origin), CALL(write), CALL(write_link), CALL(write_suffix),
-    CALL(take), CALL(candidate), CALL(best), CALL(status), CALL(record), CALL(set_interval), CALL(rank), CALL(merge), CALL(decide), CALL(decide_all), CALL(parent),
+    CALL(take), CALL(take_burst), CALL(candidate), CALL(best), CALL(status), CALL(record), CALL(set_interval), CALL(rank), CALL(merge), CALL(decide), CALL(decide_all), CALL(parent),
     CALL(compare), CALL(link_set), CALL(link_start), CALL(link_take), CALL(link_done), CALL(link_timeout), CALL(link_stop), CALL(link_status), CALL(measure),
 };
 

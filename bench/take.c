@@ -16,7 +16,7 @@ static struct record *free_slot(struct port *p, uint64_t w, uint64_t t)
     return NULL;
 }
 
-dz_answer c_take(uint64_t *ports, uint64_t port, uint64_t t, const uint8_t *s, size_t n, uint8_t domain, uint64_t clock, uint16_t magic)
+static inline dz_answer take(uint64_t *ports, uint64_t port, uint64_t t, const uint8_t *s, size_t n, uint8_t domain, uint64_t clock, uint16_t magic)
 {
     size_t at, size;
     uint64_t flags, sender, w;
@@ -54,6 +54,22 @@ dz_answer c_take(uint64_t *ports, uint64_t port, uint64_t t, const uint8_t *s, s
     r->grandmaster = be64(s + 53);
     r->quality = be64(s + 47) >> 16 << 16 | be16(s + 61);
     r->newest = p->last = t;
+    return DZ_OK;
+}
+
+dz_answer c_take(uint64_t *ports, uint64_t port, uint64_t t, const uint8_t *s, size_t n, uint8_t domain, uint64_t clock, uint16_t magic)
+{
+    return take(ports, port, t, s, n, domain, clock, magic);
+}
+
+dz_answer c_take_burst(uint64_t *ports, const uint8_t *s, size_t n, uint64_t (*burst)[DZ_BURST_WORDS], size_t messages, uint8_t domain, uint64_t clock, uint16_t magic)
+{
+    if (messages > DZ_BURST_MOST) return DZ_REFUSED_MANY;
+    for (uint64_t(*m)[DZ_BURST_WORDS] = burst; m < burst + messages; m++) {
+        size_t at = (*m)[DZ_BURST_AT] < n ? (*m)[DZ_BURST_AT] : n;
+        size_t length = (*m)[DZ_BURST_LENGTH] < n - at ? (*m)[DZ_BURST_LENGTH] : n - at;
+        (*m)[DZ_BURST_ANSWER] = take(ports, (*m)[DZ_BURST_PORT], (*m)[DZ_BURST_TIME], s + at, length, domain, clock, magic);
+    }
     return DZ_OK;
 }
 

@@ -49,7 +49,7 @@ extern "C" {
 /* Rises whenever a call, a constant, a place in words or the meaning of one changes; within one number all of it stays. A host compiled with one
    number must not run with a library of another: dz_version() == DZ_VERSION is worth a test at start. State that was kept from a library of another
    number is no longer state. */
-#define DZ_VERSION 2
+#define DZ_VERSION 3
 
 /* What every call returns: 0, or the number of its refusal in the low eight bits and, of DZ_REFUSED_TLV and DZ_REFUSED_WRBAD, a place above them. It is
    64 bits wide on every processor. */
@@ -91,7 +91,7 @@ enum dz_refusal {
     DZ_REFUSED_RANGE = 14,    /* a number outside a limit of delay and offset */
     DZ_REFUSED_UNRANKED = 15, /* a list to merge or decide by is not a ranked list */
     DZ_REFUSED_ROOM = 16,     /* output buffer smaller than the message */
-    DZ_REFUSED_MANY = 17,     /* more than 288 candidates */
+    DZ_REFUSED_MANY = 17,     /* more than 288 candidates, or messages of a burst */
     DZ_REFUSED_FIELD = 18     /* a value does not fit its field, would be refused when read, or a setting is out of range */
 };
 
@@ -322,6 +322,41 @@ enum dz_status {
 /* Takes the Announce in `octets`, which arrived on `port` at `time` (nanoseconds, not below the port's last). `domain` and `clock` are our
    own. Refuses, in this order: 8, as dz_read, 3 if it is no Announce, 9, 10, 11, 12, 13. */
 dz_answer dz_take(uint64_t ports[DZ_PORTS_WORDS], uint64_t port, uint64_t time, const uint8_t *octets, size_t length, uint8_t domain, uint64_t clock, uint16_t magic);
+
+/* A message of a burst: five words. The first four are the host's, the last is written. */
+enum dz_burst {
+    DZ_BURST_PORT = 0,   /* the port it arrived on */
+    DZ_BURST_TIME = 1,   /* when, nanoseconds */
+    DZ_BURST_AT = 2,     /* where it begins in the octets lent, and how many it has: of those past the end none is there, and the message */
+    DZ_BURST_LENGTH = 3, /* is judged by the ones that are */
+    DZ_BURST_ANSWER = 4, /* written: what dz_take answers */
+    DZ_BURST_WORDS = 5
+};
+#define DZ_BURST_MOST 288 /* the most messages of a burst */
+
+/* Takes a run of messages, in their order, as dz_take takes each, and writes every answer beside its message, refusals among them. The messages
+   lie anywhere in `octets`, so that a receive ring can be lent as it stands; they may overlap. Messages of different ports that stand next to
+   each other may change places: the state and the answers are the same. Refuses 17 for more than DZ_BURST_MOST messages, and then
+   none is taken and no answer written; an empty burst does nothing.
+
+   A driver that drains its receive ring (`ring` has the frames, `head` and `tail` count those that came and those that were taken):
+
+       uint64_t burst[DZ_BURST_MOST][DZ_BURST_WORDS];
+       while (tail != head) {
+           size_t n = 0;
+           for (; tail + n != head && n < DZ_BURST_MOST; n++) {
+               const struct frame *f = &ring.frames[(tail + n) % RING];
+               burst[n][DZ_BURST_PORT] = f->port;
+               burst[n][DZ_BURST_TIME] = f->time;
+               burst[n][DZ_BURST_AT] = (size_t)(f->octets - ring.octets);
+               burst[n][DZ_BURST_LENGTH] = f->length;
+           }
+           dz_take_burst(ports, ring.octets, sizeof ring.octets, burst, n, domain, clock, magic);
+           tail += n;                                                    // not before: from here on the card may fill these frames again
+           for (size_t i = 0; i < n; i++)
+               if (burst[i][DZ_BURST_ANSWER] != DZ_OK) count_refusal(burst[i]);
+       } */
+dz_answer dz_take_burst(uint64_t ports[DZ_PORTS_WORDS], const uint8_t *octets, size_t length, uint64_t burst[][DZ_BURST_WORDS], size_t messages, uint8_t domain, uint64_t clock, uint16_t magic);
 
 /* The candidate in a slot of a port at a time: DZ_SLOTS calls give a port's candidates. A slot past them has none. Refuses 8, then 11. */
 dz_answer dz_candidate(const uint64_t ports[DZ_PORTS_WORDS], uint64_t port, size_t slot, uint64_t time, uint64_t found[DZ_FOUND_WORDS]);

@@ -19,7 +19,7 @@ static const struct {
     [I64] = {(uint64_t)INT64_MAX + 1, INT64_MAX},
     [CLOCK] = {0, UINT64_MAX},
     [SWITCH] = {0, 1},
-    [COUNT] = {0, MOST_CANDIDATES},
+    [COUNT] = {0, MOST_COUNTED},
     [ROOM] = {0, MOST_ROOM},
 };
 
@@ -96,8 +96,14 @@ void take_fields(struct line *line, const struct field *fields, uint64_t *words)
 /* Octets as pairs of digits, or `-` for none. */
 void take_octets(struct line *line, struct octets *octets)
 {
-    struct token token = take_token(line);
     octets->length = 0;
+    take_more_octets(line, octets);
+}
+
+/* The same behind those that were taken of this line before; there is room for all that a line can hold. */
+void take_more_octets(struct line *line, struct octets *octets)
+{
+    struct token token = take_token(line);
     if (token_is(token, "-")) return;
     if (token.length == 0 || token.length % 2 != 0) line->bad = true;
     for (size_t i = 0; i < token.length && !line->bad; i += 2) {

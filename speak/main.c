@@ -29,6 +29,7 @@ static const struct {
     {"signal", call_signal},
     {"suffixtlv", call_suffixtlv},
     {"take", call_take},
+    {"burst", call_burst},
     {"candidates", call_candidates},
     {"best", call_best},
     {"records", call_records},

@@ -62,7 +62,7 @@ bool call_compare(struct clock *clock, struct line *line)
 bool call_rank(struct clock *clock, struct line *line)
 {
     (void)clock;
-    static uint64_t run[MOST_CANDIDATES * DZ_CANDIDATE_WORDS];
+    static uint64_t run[MOST_COUNTED * DZ_CANDIDATE_WORDS];
     uint64_t list[DZ_LIST_WORDS];
     uint64_t count = take_number(line, COUNT);
     for (uint64_t i = 0; i < count; i++) take_fields(line, candidate_fields, run + i * DZ_CANDIDATE_WORDS);

@@ -21,6 +21,13 @@ static const struct field record_fields[] = {
     {.kind = END},
 };
 
+/* PORT TIME of a message in a burst, before its octets */
+static const struct field arrival_fields[] = {
+    {U8, DZ_BURST_PORT},
+    {U64, DZ_BURST_TIME},
+    {.kind = END},
+};
+
 /* take PORT TIME OCTETS */
 bool call_take(struct clock *clock, struct line *line)
 {
@@ -30,6 +37,29 @@ bool call_take(struct clock *clock, struct line *line)
     take_octets(line, &octets);
     if (!line_is_whole(line)) return false;
     say_ok_or_refused(dz_take(clock->ports, port, time, octets.octet, octets.length, clock->domain, clock->own[DZ_C_GRANDMASTER], clock->magic));
+    return true;
+}
+
+/* burst N, then N times PORT TIME OCTETS: the messages lie one behind the other in what is lent, as they come */
+bool call_burst(struct clock *clock, struct line *line)
+{
+    static struct octets octets;
+    static uint64_t burst[MOST_COUNTED][DZ_BURST_WORDS];
+    uint64_t count = take_number(line, COUNT);
+    octets.length = 0;
+    for (uint64_t i = 0; i < count; i++) {
+        take_fields(line, arrival_fields, burst[i]);
+        burst[i][DZ_BURST_AT] = octets.length;
+        take_more_octets(line, &octets);
+        burst[i][DZ_BURST_LENGTH] = octets.length - burst[i][DZ_BURST_AT];
+        burst[i][DZ_BURST_ANSWER] = UINT64_MAX; /* which no message has, so that an answer that is not written shows */
+    }
+    if (!line_is_whole(line)) return false;
+    if (accepted(dz_take_burst(clock->ports, octets.octet, octets.length, burst, count, clock->domain, clock->own[DZ_C_GRANDMASTER], clock->magic))) {
+        say("ok");
+        show_number(count);
+        for (uint64_t i = 0; i < count; i++) show_ok_or_refused(burst[i][DZ_BURST_ANSWER]);
+    }
     return true;
 }
 

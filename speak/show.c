@@ -126,6 +126,13 @@ void say_ok_or_refused(dz_answer answer)
     if (accepted(answer)) say("ok");
 }
 
+/* The same of one answer among several. */
+void show_ok_or_refused(dz_answer answer)
+{
+    put(" ", 1);
+    say_ok_or_refused(answer);
+}
+
 /* Says a refusal, `none` where nothing was found, or `found`; true where what was found is to follow. */
 bool found_one(dz_answer answer, const uint64_t *found, const char *none)
 {

@@ -11,7 +11,7 @@ enum {
     LONGEST_LINE = 300000,          /* characters of a call, its newline not counted */
     MOST_OCTETS = LONGEST_LINE / 2, /* more than such a line can hold, two digits each */
     MOST_ROOM = 70000,              /* octets of a buffer that a message is written into */
-    MOST_CANDIDATES = 400           /* of a list; more than the library takes, so that its refusal can be seen */
+    MOST_COUNTED = 400              /* candidates of a list, messages of a burst: more than the library takes, so that its refusal can be seen */
 };
 
 /* The clock that the lines speak of: its settings, and the words that are lent to the library. */
@@ -47,7 +47,7 @@ struct octets {
     uint8_t octet[MOST_OCTETS];
 };
 
-/* What a number may be: of a type, a clockIdentity, 0 or 1, a count of candidates, a buffer's room. END is none: it ends a row of fields. */
+/* What a number may be: of a type, a clockIdentity, 0 or 1, a count, a buffer's room. END is none: it ends a row of fields. */
 enum kind { END, U8, U16, U32, U64, I8, I16, I64, CLOCK, SWITCH, COUNT, ROOM };
 
 /* A number of a call or an answer: what it may be, and in which word the library has it. */
@@ -62,6 +62,7 @@ bool token_is(struct token token, const char *word);
 uint64_t take_number(struct line *line, enum kind kind);
 void take_fields(struct line *line, const struct field *fields, uint64_t *words);
 void take_octets(struct line *line, struct octets *octets);
+void take_more_octets(struct line *line, struct octets *octets);
 bool line_is_whole(const struct line *line);
 
 /* ---- Which numbers make up what (fields.c) -------------------------------------------------------------------------------------- */
@@ -83,6 +84,7 @@ void show_candidates(uint64_t count, const uint64_t *candidates);
 void show_link_message(const uint64_t *message);
 bool accepted(dz_answer answer);
 void say_ok_or_refused(dz_answer answer);
+void show_ok_or_refused(dz_answer answer);
 bool found_one(dz_answer answer, const uint64_t *found, const char *none);
 void end_answer(void);
 void send_answers(void);
@@ -99,7 +101,7 @@ typedef bool call(struct clock *clock, struct line *line);
 call call_fresh, call_clock, call_domain, call_magic, call_own, call_interval, call_linksettings; /* settings.c */
 call call_read, call_lookup, call_walk, call_suffix, call_linkmessage, call_origin;               /* reading.c */
 call call_write, call_signal, call_suffixtlv;                                                     /* writing.c */
-call call_take, call_candidates, call_best, call_records;                                         /* records.c */
+call call_take, call_burst, call_candidates, call_best, call_records;                             /* records.c */
 call call_compare, call_rank, call_merge, call_decide, call_all, call_parent;                     /* ranking.c */
 call call_link;                                                                                   /* links.c */
 call call_delay;                                                                                  /* delay.c */

@@ -7,7 +7,7 @@
    nothing is cut. Answers are held against one another where the rules tie them together.
 
    The calls are those of histories of several kinds: with all of it by chance, with senders that mostly repeat themselves (12), with runs of about as many
-   candidates as may be ranked (17), and on words that no call has left. fuzz [CALLS [SEED]] ends with status 1 at the first thing that is wrong. */
+   candidates as may be ranked and bursts of about as many messages as one may hold (17), and on words that no call has left. fuzz [CALLS [SEED]] ends with status 1 at the first thing that is wrong. */
 #include "dzervolat.h"
 
 #include <inttypes.h>
@@ -64,13 +64,15 @@ static void set_to_edge(uint64_t *w, size_t n)
 /* ---- what is lent -------------------------------------------------------------------------------------------------------------- */
 
 /* Each thing that is lent stands in a box of its own, with words before and behind it that no call may touch. */
-enum box { PORTS, LINKS, FRAME, FOLLOW, TAIL, OUT, MESSAGE, LINK, RUN, LIST, OTHER, MERGED, TOGETHER, OWN, BEST, SET, RIVAL, EXCHANGE, RECORD, FOUND, STEP, DECISIONS, ANSWER, BOXES };
-enum { GUARD = 4, LONGEST_RUN = 300, OCTETS = 640, BOX_WORDS = 64 + GUARD };
+enum box { PORTS, LINKS, FRAME, FOLLOW, TAIL, OUT, RING, BURST, MESSAGE, LINK, RUN, LIST, OTHER, MERGED, TOGETHER, OWN, BEST, SET, RIVAL, EXCHANGE, RECORD, FOUND, STEP, DECISIONS, ANSWER, BOXES };
+enum { GUARD = 4, LONGEST_RUN = 300, LONGEST_BURST = 300, OCTETS = 640, RING_OCTETS = 4096, BOX_WORDS = 64 + GUARD };
 
 static const size_t sizes[BOXES] = {
     [PORTS] = DZ_PORTS_WORDS, [LINKS] = DZ_LINKS_WORDS, [RUN] = LONGEST_RUN * DZ_CANDIDATE_WORDS, [FRAME] = OCTETS / 8, [FOLLOW] = OCTETS / 8, [TAIL] = OCTETS / 8, [OUT] = OCTETS / 8,
+    [RING] = RING_OCTETS / 8, [BURST] = LONGEST_BURST * DZ_BURST_WORDS,
 };
-static uint64_t memory[DZ_PORTS_WORDS + DZ_LINKS_WORDS + LONGEST_RUN * DZ_CANDIDATE_WORDS + 4 * OCTETS / 8 + BOXES * BOX_WORDS + GUARD], before[sizeof memory / 8];
+static uint64_t memory[DZ_PORTS_WORDS + DZ_LINKS_WORDS + LONGEST_RUN * DZ_CANDIDATE_WORDS + 4 * OCTETS / 8 + RING_OCTETS / 8 + LONGEST_BURST * DZ_BURST_WORDS + BOXES * BOX_WORDS + GUARD];
+static uint64_t before[sizeof memory / 8];
 static uint64_t *boxes[BOXES];
 static uint8_t *changeable[BOXES]; /* the end of what a call may change, from the box's first octet on */
 static uint64_t calls, answers[DZ_REFUSED_FIELD + 1];
@@ -407,6 +409,14 @@ static dz_answer take(uint64_t port, uint64_t t, size_t n)
         | CAN(DZ_REFUSED_BACKWARD) | CAN(DZ_REFUSED_STALE) | CAN(DZ_REFUSED_FULL)));
 }
 
+static dz_answer take_burst(size_t lent, size_t n)
+{
+    begin("dz_take_burst");
+    may(PORTS, DZ_PORTS_WORDS), may(BURST, n * DZ_BURST_WORDS);
+    dz_answer answer = end(dz_take_burst(words(PORTS), octets(RING), lent, (uint64_t(*)[DZ_BURST_WORDS])words(BURST), n, own_domain, own_clock, magic), CAN(DZ_OK) | CAN(DZ_REFUSED_MANY));
+    return must_be(answer, n > DZ_BURST_MOST ? DZ_REFUSED_MANY : DZ_OK);
+}
+
 static dz_answer set_interval(uint64_t port, int8_t k)
 {
     begin("dz_set_interval");
@@ -537,6 +547,12 @@ static uint64_t any_port(void)
     case 1: return one_in(2) ? 0 : DZ_PORTS + 1 + below(300);
     default: return port;
     }
+}
+
+/* A port that Announces come from, mostly one of few, so that its slots fill up. */
+static uint64_t busy_port(void)
+{
+    return kind == REPEATING || one_in(2) ? 1 + below(2) : any_port();
 }
 
 /* A time: mostly the present, which goes on, else the past; seldom any, for a port that accepts one far ahead accepts no other, and its senders are not heard again. */
@@ -773,7 +789,7 @@ static void repeat_sender(uint64_t port)
 /* An Announce is taken as reading it and the port's records say. */
 static void try_taking(void)
 {
-    uint64_t port = kind == REPEATING || one_in(2) ? 1 + below(2) : any_port(), t = any_time(), m[DZ_MESSAGE_WORDS], was[DZ_RECORD_WORDS] = {0}, flags;
+    uint64_t port = busy_port(), t = any_time(), m[DZ_MESSAGE_WORDS], was[DZ_RECORD_WORDS] = {0}, flags;
     size_t n = any_frame(FRAME, one_in(12) ? any_type() : DZ_ANNOUNCE), slot = 0;
     if (one_in(kind == REPEATING ? 1 : 3)) repeat_sender(port);
     dz_answer right = read_frame(FRAME, n);
@@ -791,6 +807,66 @@ static void try_taking(void)
 static void try_announces(void)
 {
     for (uint64_t n = 1 + below(16); n > 0; n--) try_taking();
+}
+
+/* Messages lie in a ring, one behind the other with gaps between them, some over others. */
+enum { MOST_LAID = 40 };
+struct laid {
+    size_t at, length;
+};
+
+static size_t lay_messages(struct laid laid[MOST_LAID])
+{
+    size_t count = 0, next = below(16);
+    fill(words(RING), RING_OCTETS / 8);
+    while (count < MOST_LAID && next <= RING_OCTETS - OCTETS) {
+        struct laid *m = laid + count++;
+        m->length = any_frame(FRAME, one_in(12) ? any_type() : DZ_ANNOUNCE);
+        if (one_in(kind == REPEATING ? 1 : 3)) repeat_sender(busy_port());
+        m->at = one_in(10) ? below(RING_OCTETS - OCTETS) : next;
+        memcpy(octets(RING) + m->at, octets(FRAME), m->length);
+        next += m->length + below(8);
+    }
+    return count;
+}
+
+/* One of them arrives; now and then another part of the ring, or one that begins or ends past it. */
+static void any_arrival(uint64_t *row, const struct laid *laid, size_t count)
+{
+    const struct laid *m = laid + below(count);
+    row[DZ_BURST_PORT] = busy_port();
+    row[DZ_BURST_TIME] = any_time();
+    row[DZ_BURST_AT] = one_in(16) ? one_in(2) ? below(RING_OCTETS + 100) : edge() : m->at;
+    row[DZ_BURST_LENGTH] = one_in(16) ? one_in(2) ? below(RING_OCTETS + 100) : edge() : m->length;
+    row[DZ_BURST_ANSWER] = any();
+}
+
+/* What taking a message alone answers, on other words; of the octets that its row names, those that were lent lie apart from the ring. */
+static dz_answer take_alone(uint64_t other[DZ_PORTS_WORDS], const uint64_t *row, size_t lent)
+{
+    static uint8_t apart[RING_OCTETS];
+    uint64_t at = row[DZ_BURST_AT], length = row[DZ_BURST_LENGTH];
+    if (at >= lent) length = 0;
+    else if (length > lent - at) length = lent - at;
+    if (length > 0) memcpy(apart, octets(RING) + at, length);
+    return dz_take(other, row[DZ_BURST_PORT], row[DZ_BURST_TIME], apart, length, own_domain, own_clock, magic);
+}
+
+/* A burst leaves the words, and beside each message the answer, that its messages leave and get one after another. More than 288 leave all as it was. */
+static void try_bursts(void)
+{
+    static uint64_t other[DZ_PORTS_WORDS];
+    struct laid laid[MOST_LAID];
+    size_t count = lay_messages(laid), n = one_in(kind == CROWDED ? 2 : 12) ? DZ_BURST_MOST - 7 + below(16) : below(24), lent = one_in(4) ? below(RING_OCTETS + 1) : RING_OCTETS;
+    for (size_t i = 0; i < n; i++) any_arrival(words(BURST) + i * DZ_BURST_WORDS, laid, count);
+    memcpy(other, words(PORTS), sizeof other);
+    if (take_burst(lent, n) != DZ_OK) return;
+    for (size_t i = 0; i < n; i++) {
+        const uint64_t *row = words(BURST) + i * DZ_BURST_WORDS, *was = words_before(BURST) + i * DZ_BURST_WORDS;
+        expect(same_words(row, was, DZ_BURST_ANSWER), "a message's port, time or place has changed");
+        must_be(row[DZ_BURST_ANSWER], take_alone(other, was, lent));
+    }
+    expect(same_words(words(PORTS), other, DZ_PORTS_WORDS), "a burst leaves other words than its messages do one after another");
 }
 
 /* A port's slots, asked in each way that there is, tell the same. */
@@ -1197,7 +1273,7 @@ static void try_measuring(void)
 
 /* ---- all of them --------------------------------------------------------------------------------------------------------------- */
 
-static void (*const tries[])(void) = {try_announces, try_announces, try_announces, try_slots, try_intervals, try_best, try_deciding_all, try_deciding, try_ranking,
+static void (*const tries[])(void) = {try_announces, try_announces, try_announces, try_bursts, try_bursts, try_slots, try_intervals, try_best, try_deciding_all, try_deciding, try_ranking,
     try_comparing, try_reading, try_origin, try_writing, try_writing_links, try_links, try_links, try_measuring};
 
 /* One of the tries; most are the one that the kind of history is about. */

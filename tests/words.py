@@ -109,14 +109,24 @@ NUMBERS = [
         "Calibrated": "DZ_LINK_CALIBRATED", "ModeOn": "DZ_LINK_WR_MODE_ON"}),
 ]
 
+# The places in a row of words that a definition reads or sets, as it names them from left to right.
+ROWS = [
+    ("ports.portIn", ["DZ_BURST_PORT"]),
+    ("ports.timeIn", ["DZ_BURST_TIME"]),
+    ("ports.octetsIn", ["DZ_BURST_AT", "DZ_BURST_LENGTH"]),
+    ("ports.answered", ["DZ_BURST_ANSWER"]),
+]
+
 # The numbers that a definition tests for.
 TESTED = [
     ("link.CanSlave", ["DZ_CONFIG_SLAVE", "DZ_CONFIG_BOTH"]),
     ("link.CanMaster", ["DZ_CONFIG_MASTER", "DZ_CONFIG_BOTH"]),
+    ("ports.isMany", ["DZ_BURST_MOST"]),
 ]
 
-# Enumerators of which no definition speaks: no refusal, no config, what follows from another, and the bits of wrFlags.
-NOT_DEFINED = {"DZ_OK", "DZ_CONFIG_NONE", "DZ_LIST_FIRST", "DZ_LIST_CANDIDATES"}
+# Enumerators of which no definition speaks: no refusal, no config, what follows from another, the length of a row, which a call's parameter has, and
+# the bits of wrFlags.
+NOT_DEFINED = {"DZ_OK", "DZ_CONFIG_NONE", "DZ_LIST_FIRST", "DZ_LIST_CANDIDATES", "DZ_BURST_WORDS"}
 NOT_DEFINED_ENUMS = {"dz_wrflags"}
 
 # ---- the definitions
@@ -404,16 +414,35 @@ def numbers_in(term):
     return {int(term)} if isinstance(term, str) and term.isdigit() else set()
 
 
+def stand(header, names):
+    """What some enumerators are, in words."""
+    return f"{' and '.join(names)} {'is' if len(names) == 1 else 'are'} {' and '.join(str(header.value(name)) for name in names)}"
+
+
 def faults_of_tests(header, title, names):
     numbers = numbers_in([right for _, right in definition_of(title).equations])
     if numbers != {header.value(name) for name in names}:
-        yield f"{' and '.join(names)} are {' and '.join(str(header.value(name)) for name in names)}, but {title} tests for {sorted(numbers)}"
+        yield f"{stand(header, names)}, but {title} tests for {sorted(numbers)}"
+
+
+def places_in(term):
+    """The places that a term reads of a row, or sets in it, from left to right."""
+    if not isinstance(term, (tuple, list)):
+        return []
+    here = [int(term[2][1][1])] if term[:2] in (("call", ("name", "getD")), ("call", ("name", "set"))) else []
+    return here + [place for part in term for place in places_in(part)]
+
+
+def faults_of_rows(header, title, names):
+    found = [place for _, right in definition_of(title).equations for place in places_in(right)]
+    if found != [header.value(name) for name in names]:
+        yield f"{stand(header, names)}, but {title} has {' and '.join(map(str, found))}"
 
 
 def faults_of_names(header):
     """Enumerators that nothing above speaks of."""
     told = {name for _, table, *count in PACKED + UNPACKED + NUMBERS for name in [*table.values(), *count]} | NOT_DEFINED
-    told |= {name for _, names in TESTED for name in names}
+    told |= {name for _, names in ROWS + TESTED for name in names}
     for enum, names in header.enums.items():
         if enum not in NOT_DEFINED_ENUMS:
             yield from (f"{name} of enum {enum} is in no table of tests/words.py" for name in names if name not in told)
@@ -448,6 +477,9 @@ def c_parameters(parameter):
         return [f"{const}{C_TYPES[array[1]]} [{constant(array[2])}]"]
     if lent[2] in C_TYPES:
         return [f"{const}{C_TYPES[lent[2]]} [1]"]
+    rows = re.fullmatch(r"\[\[(\w+); ([\w:]+)\]\]", lent[2])
+    if rows:
+        return [f"{const}{C_TYPES[rows[1]]} [][{constant(rows[2])}]", "size_t"]
     inner = re.search(r"u8|u64", lent[2])[0]
     return [f"{const}{C_TYPES[inner]} *", "size_t"]
 
@@ -462,12 +494,18 @@ def code_calls():
 
 def header_parameters(header, parameters):
     for parameter in parameters:
-        array = re.fullmatch(r"(.*) \w+\[(\w+)\]", parameter)
+        array = re.fullmatch(r"(.*) \w+(\[\])?\[(\w+)\]", parameter)
         single = re.fullmatch(r"((?:const )?uint64_t) \*\w+", parameter)
         if array:
-            yield f"{array[1]} [{header.value(array[2])}]"
+            yield f"{array[1]} {array[2] or ''}[{header.value(array[3])}]"
         elif parameter != "void":
             yield re.sub(r"\w+$", "", parameter).strip() if not single else f"{single[1]} *"
+
+
+def declarations(parameters):
+    """How a header may declare them: one word is lent as a pointer to it, rows as they are or, since they lie one behind the other, as a pointer to words."""
+    pointed = [x.replace("uint64_t [1]", "uint64_t *") for x in parameters]
+    return pointed, [re.sub(r"\[\]\[\d+\]", "*", x) for x in pointed]
 
 
 def faults_of_calls(header):
@@ -475,8 +513,7 @@ def faults_of_calls(header):
     for name in sorted(code.keys() | header.calls.keys()):
         result, parameters = header.calls.get(name, ("nothing", []))
         said = [result.replace("dz_answer", "uint64_t"), *header_parameters(header, parameters)]
-        # one word is lent as a pointer to it
-        if code.get(name) is None or said != [x.replace("uint64_t [1]", "uint64_t *") for x in code[name]]:
+        if code.get(name) is None or said not in declarations(code[name]):
             yield f"{name} has {', '.join(said)} in the header, but {', '.join(code.get(name, ['nothing']))} in the code"
 
 
@@ -485,9 +522,10 @@ def main():
     faults = [fault for title, table, count in PACKED for fault in faults_of_places(header, title, table, count, False)]
     faults += [fault for title, table, count in UNPACKED for fault in faults_of_places(header, title, table, count, True)]
     faults += [fault for title, table in NUMBERS for fault in faults_of_numbers(header, title, table)]
+    faults += [fault for title, names in ROWS for fault in faults_of_rows(header, title, names)]
     faults += [fault for title, names in TESTED for fault in faults_of_tests(header, title, names)]
     faults += [*faults_of_names(header), *faults_of_calls(header)]
-    fields = sum(len(table) for _, table, *_ in PACKED + UNPACKED)
+    fields = sum(len(table) for _, table, *_ in PACKED + UNPACKED + ROWS)
     numbers = sum(len(table) for _, table in NUMBERS)
     print(*faults, sep="\n", end="\n" if faults else "")
     print(f"{fields} fields, {numbers} numbers and {len(header.calls)} calls of the header, {len(faults)} differ")

@@ -7,6 +7,9 @@ use Rattle.dzervolat.proofs as its
 pub dz-take-determined : Fixes its.records.dz_take.ended its.records.dz_take.Reads.Post
 dz-take-determined κs a x y v w p q = (p .0 ∙ sym (q .0), λ i. ((p .1 ∙ sym (q .1)) i, w .1))
 
+pub dz-take-burst-determined : Fixes its.records.dz_take_burst.ended its.records.dz_take_burst.Reads.Post
+dz-take-burst-determined κs a x y v w p q = (p .0 ∙ sym (q .0), λ i. ((p .1 .0 ∙ sym (q .1 .0)) i, (tt, ((p .1 .1 ∙ sym (q .1 .1)) i, w .1 .1 .1))))
+
 pub dz-candidate-determined : Fixes its.records.dz_candidate.ended its.records.dz_candidate.Reads.Post
 dz-candidate-determined κs a x y v w p q = (p .0 ∙ sym (q .0), λ i. (tt, (tt, (tt, (tt, ((p .1 ∙ sym (q .1)) i, w .1 .1 .1 .1 .1))))))
 

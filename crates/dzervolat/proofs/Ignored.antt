@@ -17,7 +17,9 @@ use Rattle.origin.specs.Origin.{originCheck, originIn}
 use Rattle.origin.proofs.Ignored.{origin-check-same, origin-same}
 use Rattle.senders.specs.Port.{outcomeOf}
 use Rattle.ports.specs.Intake.{planAt, stateAfter}
+use Rattle.ports.specs.Burst.{burstCheck, burstWords, burstRows, AlikeIn}
 use Rattle.ports.proofs.Ignored.{plan-same}
+use Rattle.ports.proofs.Bursts.{burst-same}
 use Rattle.words.specs.Words.{portOf}
 use Rattle.message_words.specs.Answers.{readCode, readWords, tailWords, tlvCode, tlvWords, walkedCode, walkedWords, suffixCode, suffixWords, linkCode, linkWords, originWords}
 use Rattle.dzervolat.specs.Settings.{settings}
@@ -35,6 +37,8 @@ use Rattle.dzervolat.proofs.reading.dz_origin.Reads as dz-origin
 use Rattle.dzervolat.proofs.reading.dz_origin.Kinds as dz-origin-kinds
 use Rattle.dzervolat.proofs.records.dz_take.Reads as dz-take
 use Rattle.dzervolat.proofs.records.dz_take.Kinds as dz-take-kinds
+use Rattle.dzervolat.proofs.records.dz_take_burst.Reads as dz-take-burst
+use Rattle.dzervolat.proofs.records.dz_take_burst.Kinds as dz-take-burst-kinds
 
 module _ (κs : Lfts 3) (a b : Dens κs dz-read-kinds.ps) (x y : resT dz-read-kinds.r κs .Denot)
     (e f : AtExit (endedOf 3 dz-read-kinds.ps dz-read-kinds.r) κs) where
@@ -100,3 +104,15 @@ module _ (κs : Lfts 2) (a b : Dens κs dz-take-kinds.ps) (x y : resT dz-take-ki
       let r = plan-same (settings (a .1 .1 .1 .1 .0) (a .1 .1 .1 .1 .1 .0) (a .1 .1 .1 .1 .1 .1 .0)) (portOf (a .1 .0)) (now (a .1 .1 .1 .0)) (now (b .1 .1 .1 .0)) s (now (a .0)) (a .1 .1 .0)
       ∙ (λ i. planAt (settings (d i) (c i) (m i)) (w i) (portOf (n i)) (t i) (now (b .1 .1 .1 .0))) in
       (p .0 ∙ (λ i. codeOf (outcomeOf (r i))) ∙ sym (q .0), p .1 ∙ (λ i. stateAfter (w i) (portOf (n i)) (t i) (r i)) ∙ sym (q .1))
+
+module _ (κs : Lfts 3) (a b : Dens κs dz-take-burst-kinds.ps) (x y : resT dz-take-burst-kinds.r κs .Denot)
+    (e f : AtExit (endedOf 3 dz-take-burst-kinds.ps dz-take-burst-kinds.r) κs) where
+  pub dz-take-burst-ignores : AlikeIn (now (a .1 .0)) (now (b .1 .0)) (now (a .1 .1 .0)) → now (a .0) ≡ now (b .0) → now (a .1 .1 .0) ≡ now (b .1 .1 .0)
+      → a .1 .1 .1 .0 ≡ b .1 .1 .1 .0 → a .1 .1 .1 .1 .0 ≡ b .1 .1 .1 .1 .0 → a .1 .1 .1 .1 .1 .0 ≡ b .1 .1 .1 .1 .1 .0
+      → dz-take-burst.Post κs a x e → dz-take-burst.Post κs b y f → (x ≡ y) × (now (e .0) ≡ now (f .0)) × (now (e .1 .1 .0) ≡ now (f .1 .1 .0))
+  dz-take-burst-ignores s w r d c m p q =
+      let l = burst-same (settings (a .1 .1 .1 .0) (a .1 .1 .1 .1 .0) (a .1 .1 .1 .1 .1 .0)) (now (a .1 .0)) (now (b .1 .0)) (now (a .0)) (now (a .1 .1 .0)) s in (
+        p .0 ∙ (λ i. codeOf (burstCheck (r i))) ∙ sym (q .0),
+        p .1 .0 ∙ l .0 ∙ (λ i. burstWords (settings (d i) (c i) (m i)) (now (b .1 .0)) (w i) (r i)) ∙ sym (q .1 .0),
+        p .1 .1 ∙ l .1 ∙ (λ i. burstRows (settings (d i) (c i) (m i)) (now (b .1 .0)) (w i) (r i)) ∙ sym (q .1 .1),
+      )

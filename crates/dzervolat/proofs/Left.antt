@@ -9,7 +9,7 @@ use lib.ListN.{length}
 use Rattle.refusal.specs.Choice.{pick, refuse}
 use Rattle.refusal.specs.Refusal.{codeOf}
 use Rattle.refusal.specs.declared.Refusal.{Refusal}
-use Rattle.refusal.specs.declared.Refusal.the-variants.{Port, Field, Backward}
+use Rattle.refusal.specs.declared.Refusal.the-variants.{Port, Field, Backward, Many}
 use Rattle.refusal.specs.declared.Outcome.{Outcome}
 use Rattle.refusal.specs.declared.Outcome.the-variants as outcome
 use Rattle.message.specs.declared.reading.Reading.{Reading}
@@ -42,7 +42,10 @@ use Rattle.ports.specs.declared.asking.Status.{Status}
 use Rattle.ports.specs.declared.asking.Status.the-variants as status
 use Rattle.ports.specs.declared.asking.Looked.{Looked}
 use Rattle.ports.specs.declared.asking.Looked.the-variants as looked
+use Rattle.ports.specs.declared.intake.Settings.{Settings}
 use Rattle.ports.specs.Intake.{stateAfter}
+use Rattle.ports.specs.History.{run}
+use Rattle.ports.specs.Burst.{callsOf, answered, isMany, burstCheck, burstWords, burstRows}
 use Rattle.ports.specs.Interval.{intervalSet, intervalAfter}
 use Rattle.ports.proofs.Follows.{set-refusal-leaves}
 use Rattle.election.specs.declared.Leader.{Leader}
@@ -68,11 +71,11 @@ use Rattle.dzervolat.specs.Ranking.{electedBy, decisionsAfter, setsFit, 
 use Rattle.dzervolat.specs.Writing.{wordsWritten, wordsBuffer, isSignaling, signalingOf, linkWritten, linkBuffer}
 
 -- "State, output buffers and input stay as they were."
-abbrev pub Left : ℕ → List ℕ → List ℕ → Type 0
+abbrev pub Left : {A : Type 0} → ℕ → A → A → Type 0
 Left number before after = (number ≡ 0 → ⊥) → after ≡ before
 
 -- what equals an answer leaves what the answer leaves
-pub left-by : {n m : ℕ} {before after words : List ℕ} → n ≡ m → after ≡ words → Left m before words → Left n before after
+pub left-by : {A : Type 0} {n m : ℕ} {before after words : A} → n ≡ m → after ≡ words → Left m before words → Left n before after
 left-by p q l h = q ∙ l (λ z. h (p ∙ z))
 
 -- ---- reading
@@ -137,6 +140,16 @@ signaling-left magic w l out = tested-left (not (isSignaling w l)) _ _ out (mess
 pub take-left : (ws : List ℕ) (port t : ℕ) (q : Plan) → Left (codeOf (outcomeOf q)) ws (stateAfter ws port t q)
 take-left ws port t (Refuse x) h = refl
 take-left ws port t (Put i r) h = absurd (h refl)
+
+many-left : {A : Type 0} (b : Bool) (before after : A) → Left (codeOf (refuse b (outcome.Refused Many) outcome.Done)) before (pick b before after)
+unfolding refuse
+many-left true before after h = refl
+many-left false before after h = absurd (h refl)
+
+-- a burst that is refused leaves the state and every row
+pub burst-left : (by : Settings) (o ws : List ℕ) (ms : List (List ℕ))
+    → Left (codeOf (burstCheck ms)) ws (burstWords by o ws ms) × Left (codeOf (burstCheck ms)) ms (burstRows by o ws ms)
+burst-left by o ws ms = (many-left (isMany ms) ws (run ws (callsOf by o ms)), many-left (isMany ms) ms (answered by o ws ms))
 
 outcome-left : (o : Outcome) (before after : List ℕ) → ((x : Refusal) → o ≡ outcome.Refused x → after ≡ before) → Left (codeOf o) before after
 outcome-left outcome.Done before after f h = absurd (h refl)

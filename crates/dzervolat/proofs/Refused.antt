@@ -22,9 +22,11 @@ use Rattle.exchange_words.specs.Exchanges.{measuredOf}
 use Rattle.dzervolat.specs.Settings.{settings, linkSettings}
 use Rattle.dzervolat.specs.Ranking.{rankedRun, mergedLists, decidedBy, electedBy, parentIn}
 use Rattle.dzervolat.specs.Writing.{wordsWritten, linkWritten}
-use Rattle.dzervolat.proofs.Left.{Left, left-by, asked-left, carried-left, compared-left, decided-left, decisions-left, interval-left, leader-left, looked-left, measured-left, origin-left, ranking-left, read-left, setting-left, signaling-left, status-left, step-left, suffix-left, tail-left, take-left, taken-left, tlv-left, walked-left, words-left, written-left}
+use Rattle.dzervolat.proofs.Left.{Left, left-by, asked-left, burst-left, carried-left, compared-left, decided-left, decisions-left, interval-left, leader-left, looked-left, measured-left, origin-left, ranking-left, read-left, setting-left, signaling-left, status-left, step-left, suffix-left, tail-left, take-left, taken-left, tlv-left, walked-left, words-left, written-left}
 use Rattle.dzervolat.proofs.records.dz_take.Reads as dz-take
 use Rattle.dzervolat.proofs.records.dz_take.Kinds as dz-take-kinds
+use Rattle.dzervolat.proofs.records.dz_take_burst.Reads as dz-take-burst
+use Rattle.dzervolat.proofs.records.dz_take_burst.Kinds as dz-take-burst-kinds
 use Rattle.dzervolat.proofs.records.dz_candidate.Reads as dz-candidate
 use Rattle.dzervolat.proofs.records.dz_candidate.Kinds as dz-candidate-kinds
 use Rattle.dzervolat.proofs.records.dz_best.Reads as dz-best
@@ -83,6 +85,12 @@ use Rattle.dzervolat.proofs.writing.dz_write_link.Kinds as dz-write-lin
 module _ (κs : Lfts 2) (a : Dens κs dz-take-kinds.ps) (x : resT dz-take-kinds.r κs .Denot) (e : AtExit (endedOf 2 dz-take-kinds.ps dz-take-kinds.r) κs) where
   pub dz-take-left : dz-take.Post κs a x e → Left x (now (a .0)) (now (e .0))
   dz-take-left p = left-by (p .0) (p .1) (take-left (now (a .0)) (portOf (a .1 .0)) (a .1 .1 .0) (planAt (settings (a .1 .1 .1 .1 .0) (a .1 .1 .1 .1 .1 .0) (a .1 .1 .1 .1 .1 .1 .0)) (now (a .0)) (portOf (a .1 .0)) (a .1 .1 .0) (now (a .1 .1 .1 .0))))
+
+module _ (κs : Lfts 3) (a : Dens κs dz-take-burst-kinds.ps) (x : resT dz-take-burst-kinds.r κs .Denot) (e : AtExit (endedOf 3 dz-take-burst-kinds.ps dz-take-burst-kinds.r) κs) where
+  pub dz-take-burst-left : dz-take-burst.Post κs a x e → (Left x (now (a .0)) (now (e .0))) × (Left x (now (a .1 .1 .0)) (now (e .1 .1 .0)))
+  dz-take-burst-left p =
+      let l = burst-left (settings (a .1 .1 .1 .0) (a .1 .1 .1 .1 .0) (a .1 .1 .1 .1 .1 .0)) (now (a .1 .0)) (now (a .0)) (now (a .1 .1 .0)) in
+      (left-by (p .0) (p .1 .0) (l .0), left-by (p .0) (p .1 .1) (l .1))
 
 module _ (κs : Lfts 2) (a : Dens κs dz-candidate-kinds.ps) (x : resT dz-candidate-kinds.r κs .Denot) (e : AtExit (endedOf 2 dz-candidate-kinds.ps dz-candidate-kinds.r) κs) where
   pub dz-candidate-left : dz-candidate.Post κs a x e → Left x (now (a .1 .1 .1 .1 .0)) (now (e .1 .1 .1 .1 .0))

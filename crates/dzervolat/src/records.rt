@@ -1,9 +1,10 @@
 // Eighteen ports' sender records, in 1764 words that the host keeps: zeroed words are a fresh clock.
 ghost use mathlib.Core.Path.{_≡_};
 ghost use Rattle.refusal.specs.Refusal.{codeOf};
-ghost use Rattle.senders.specs.Port.{outcomeOf};
 ghost use Rattle.ports.specs.Asking.{candidateOn, bestOn, statusOf, lookedAt};
+ghost use Rattle.ports.specs.Burst.{burstCheck, burstWords, burstRows};
 ghost use Rattle.ports.specs.Intake.{planAt, stateAfter};
+ghost use Rattle.ports.specs.When.{takeNumber};
 ghost use Rattle.ports.specs.Interval.{intervalSet, intervalAfter};
 ghost use Rattle.candidate_words.specs.Candidates.{askedCode, askedWords};
 ghost use Rattle.candidate_words.specs.Answers.{statusCode, statusWords, lookedCode, lookedWords};
@@ -22,7 +23,7 @@ pub extern "C" fn dz_take(
     clock: u64,
     magic: u16,
 ) -> u64
-    ensures answer { λ r. ⌜ r ≡ codeOf (outcomeOf (planAt (settings domain clock magic) (now (ports .entry)) (portOf port) t (now (octets .entry)))) ⌝ }
+    ensures answer { λ r. ⌜ r ≡ takeNumber (settings domain clock magic) (now (ports .entry)) (portOf port) t (now (octets .entry)) ⌝ }
     ensures words { λ _. ⌜ now (ports .exit) ≡ stateAfter (now (ports .entry)) (portOf port) t (planAt (settings domain clock magic) (now (ports .entry)) (portOf port) t (now (octets .entry))) ⌝ }
 {
     let set = Settings {
@@ -30,8 +31,29 @@ pub extern "C" fn dz_take(
         clock,
         magic,
     };
-    let p = words::port_of(port);
-    refusal::code(ports::intake::take(ports, p, t, octets, set))
+    ports::intake::answer(ports, port, t, octets, set)
+}
+
+// Takes a burst, message by message, and writes the answer of each beside it.
+#[no_mangle]
+pub extern "C" fn dz_take_burst(
+    ports: &mut [u64; ports::WORDS],
+    octets: &[u8],
+    burst: &mut [[u64; ports::burst::ROW]],
+    domain: u8,
+    clock: u64,
+    magic: u16,
+) -> u64
+    ensures answer { λ r. ⌜ r ≡ codeOf (burstCheck (now (burst .entry))) ⌝ }
+    ensures words { λ _. ⌜ now (ports .exit) ≡ burstWords (settings domain clock magic) (now (octets .entry)) (now (ports .entry)) (now (burst .entry)) ⌝ }
+    ensures rows { λ _. ⌜ now (burst .exit) ≡ burstRows (settings domain clock magic) (now (octets .entry)) (now (ports .entry)) (now (burst .entry)) ⌝ }
+{
+    let set = Settings {
+        domain,
+        clock,
+        magic,
+    };
+    refusal::code(ports::burst::take_burst(ports, octets, burst, set))
 }
 
 // The candidate in a slot of a port at time `t`: 1 and its eleven words, or zeros.

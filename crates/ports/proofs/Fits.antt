@@ -40,7 +40,7 @@ unfolding suffixIn
 flags-fit magic t = let p = first (suffixAt magic t) t 0 in flags-by t p (ltb p (length t))
 
 -- the Announce of a message
-abbrev heardOf : ℕ → List ℕ → Heard
+abbrev pub heardOf : ℕ → List ℕ → Heard
 heardOf magic s = record { header = headerOf s; announce = announceOf s; flags = wrFlagsOf (suffixIn magic (tailOf s)) }
 
 octets-fit : (magic : ℕ) (s : List ℕ) → Octets s → Fitting (noticeOf (heardOf magic s))
@@ -59,7 +59,7 @@ octets-fit magic s o =
       steps = be-bound 2 s 61 o;
     }
 
-no-whole : {x : Refusal} {h : Heard} → announced.Refused x ≡ announced.Whole h → ⊥
+pub no-whole : {x : Refusal} {h : Heard} → announced.Refused x ≡ announced.Whole h → ⊥
 no-whole {x} {h} e = let z : _≡_ {A = ℕ} 0 1 = cc in omega arith
 
 heard-by : (magic : ℕ) (s : List ℕ) (h : Heard) (c : Outcome)
@@ -74,14 +74,14 @@ heard-by magic s h outcome.Done e =
     same : {g k : Heard} → announced.Whole g ≡ announced.Whole k → g ≡ k
     same {g} {k} w = cc
 
-heard-is : (magic : ℕ) (s : List ℕ) (h : Heard) → announcedOf magic s ≡ announced.Whole h → heardOf magic s ≡ h
+pub heard-is : (magic : ℕ) (s : List ℕ) (h : Heard) → announcedOf magic s ≡ announced.Whole h → heardOf magic s ≡ h
 unfolding announcedOf
 heard-is magic s h e = heard-by magic s h (checkOf magic s) e
 
 same-notice : {a b : kept.Notice} → Notice a ≡ Notice b → a ≡ b
 same-notice {a} {b} e = cc
 
-judged-is : (set : Settings) (h : Heard) (a : kept.Notice) → judgedOf set h ≡ Notice a → noticeOf h ≡ a
+pub judged-is : (set : Settings) (h : Heard) (a : kept.Notice) → judgedOf set h ≡ Notice a → noticeOf h ≡ a
 judged-is set h a e =
     let own = passed (Refused Domain) (refuse (eqb (h .header .source .clock) (set .clock)) (Refused Own) (Notice (noticeOf h))) (Notice a) (not (eqb (h .header .domain) (set .domain))) unlike e .1 in
     same-notice (passed (Refused Own) (Notice (noticeOf h)) (Notice a) (eqb (h .header .source .clock) (set .clock)) unlike own .1)

@@ -98,7 +98,7 @@ after-is ws (setting port k) h = rw h (interval-with ws port (exponentOf k) (isI
 after-is ws (asking port) h = sym (with-own ws port)
 
 -- elsewhere it changes nothing
-after-none : (ws : List ℕ) (c : Call) → isPort (portOfCall c) ≡ false → after ws c ≡ ws
+pub after-none : (ws : List ℕ) (c : Call) → isPort (portOfCall c) ≡ false → after ws c ≡ ws
 unfolding planAt admittedOf refuse
 after-none ws (taking set port t s) h = rw h
 after-none ws (setting port k) h = rw h

@@ -5,7 +5,7 @@ use mathlib.Core.List.{List, _++_}
 use Prim.Native.Nat.{ℕ, suc, _+_, _-_, _*_, _%_, _≤_, _<_}
 use native.Mathlib.Omega.{arith}
 use native.Mathlib.Decide.{decLe}
-use lib.Dec.{leb}
+use lib.Dec.{leb, ltb}
 use lib.IntN.{ℤ, pos, negsuc}
 use lib.ListN.{take, drop, set, take-append-drop}
 use lib.Seq.{drop-drop}
@@ -14,12 +14,12 @@ use mir.Val.{toZ, ofZ, SFits}
 use mir.ValLaws.{toZ-pos, toZ-neg}
 use borrow.Author.Tests.{not-true, not-false, leb-true, le-leb, lt-leb, lt-ltb, le-ltb}
 pub use Rattle.refusal.proofs.Limits.{port-bounds}
-use Rattle.refusal.specs.Choice.{refuse}
+use Rattle.refusal.specs.Choice.{pick, refuse}
 use Rattle.refusal.specs.declared.Refusal.{Refusal}
 use Rattle.refusal.specs.declared.Refusal.the-variants.{Port, Field}
 use Rattle.refusal.specs.declared.Outcome.{Outcome}
 use Rattle.refusal.specs.declared.Outcome.the-variants as outcome
-use Rattle.refusal.proofs.Choice.{passed}
+use Rattle.refusal.proofs.Choice.{passed, is-refused}
 use Rattle.rank.specs.Ranked.{isPort}
 use Rattle.senders.specs.declared.Notice as kept
 use Rattle.senders.specs.declared.Plan.{Plan}
@@ -34,6 +34,7 @@ use Rattle.ports.specs.Words.{own, with, portAt}
 use Rattle.ports.specs.Intake.{admittedOf, admittedBy, planBy, planAt, stateAfter}
 use Rattle.ports.specs.Interval.{isInterval, inRange, intervalOf, setBy, afterBy, intervalSet, intervalAfter}
 use Rattle.message.specs.Parts.{announcedOf}
+use Rattle.words.specs.Words as named
 
 -- the part that is lent is the port's own
 pub lent-own : (ws : List ℕ) (port b : ℕ) → b ≡ 98 * (port - 1) → take (b + 98 - b) (drop b ws) ≡ own ws port
@@ -83,6 +84,28 @@ module _ (set : Settings) (ws : List ℕ) (port t : ℕ) (s : List ℕ) where
             ∙ state-of ws port t (senders.planOf (portAt ws port) t a)
             ∙ ap (stateAfter ws port t) p,
       )
+
+-- a word that names a port, and one past them
+pub port-is : (w : ℕ) → w ≤ 18 → named.portOf w ≡ w
+port-is w h = rw (lt-ltb w 256 (omega arith))
+
+no-port : (w : ℕ) → 18 < w → isPort (named.portOf w) ≡ false
+no-port w h = by (ltb w 256)
+  where
+    none : (b : Bool) → (b && false) ≡ false
+    none true = refl
+    none false = refl
+
+    by : (b : Bool) → isPort (pick b w 0) ≡ false
+    by true = rw (lt-leb w 18 h) (none (leb 1 w))
+    by false = refl
+
+pub take-no-port : (set : Settings) (ws : List ℕ) (w t : ℕ) (s : List ℕ) → 18 < w
+    → (outcome.Refused Port ≡ senders.outcomeOf (planAt set ws (named.portOf w) t s)) × (ws ≡ stateAfter ws (named.portOf w) t (planAt set ws (named.portOf w) t s))
+unfolding admittedOf
+take-no-port set ws w t s h =
+    take-refused set ws (named.portOf w) t s (Refused Port) Port
+    (is-refused (isPort (named.portOf w)) false (sym (no-port w h)) (Refused Port) (admittedBy set (announcedOf (set .magic) s)) refl) refl
 
 -- ---- the interval
 leb-same : (a b n m : ℕ) → (a ≤ b → n ≤ m) → (n ≤ m → a ≤ b) → leb a b ≡ leb n m

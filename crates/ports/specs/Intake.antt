@@ -9,6 +9,8 @@ use Rattle.message.specs.Parts.{announcedOf}
 use Rattle.message.specs.declared.announce.Announced.{Announced}
 use Rattle.message.specs.declared.announce.Announced.the-variants as announced
 use Rattle.message.specs.declared.announce.Heard.{Heard}
+use Rattle.message.specs.declared.fields.Announce.{Announce}
+use Rattle.rank.specs.declared.Grandmaster.{Grandmaster}
 use Rattle.rank.specs.Ranked.{isPort}
 use Rattle.senders.specs.declared.Notice as kept
 use Rattle.senders.specs.declared.Plan.{Plan}
@@ -20,21 +22,18 @@ use Rattle.ports.specs.declared.intake.Admitted.{Admitted}
 use Rattle.ports.specs.declared.intake.Admitted.the-variants.{Refused, Notice}
 use Rattle.ports.specs.Words.{own, with, portAt}
 
+-- the grandmaster of an Announce
+abbrev pub grandmasterOf : Announce → Grandmaster
+grandmasterOf a =
+    record { priority1 = a .priority1; class = a .class; accuracy = a .accuracy; variance = a .variance; priority2 = a .priority2; identity = a .grandmaster }
+
 -- what is kept of an Announce: its sender, sequenceId, the data of a candidate, and wrFlags
 abbrev pub noticeOf : Heard → kept.Notice
 noticeOf h =
     record {
       sender = record { clock = h .header .source .clock; port = h .header .source .port };
       sequence = h .header .sequence;
-      grandmaster =
-          record {
-            priority1 = h .announce .priority1;
-            class = h .announce .class;
-            accuracy = h .announce .accuracy;
-            variance = h .announce .variance;
-            priority2 = h .announce .priority2;
-            identity = h .announce .grandmaster;
-          };
+      grandmaster = grandmasterOf (h .announce);
       steps = h .announce .steps;
       wrflags = h .flags;
     }

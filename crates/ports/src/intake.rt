@@ -2,10 +2,16 @@
 // checks (1 to 7), 3 (another message than an Announce), 9 (another domain), 10 (our own clock), 11, 12, 13. Where it refuses, no
 // word changes; an Announce that is taken writes one record and one time.
 ghost use mathlib.Core.Path.{_≡_};
+ghost use Prim.Native.Nat.{_≤_};
 ghost use lib.ListN.{length};
-ghost use Rattle.senders.specs.Port.{outcomeOf};
-ghost use Rattle.ports.specs.Intake.{noticeOf, judgedOf, admittedOf, planAt, stateAfter};
+ghost use Rattle.message.specs.Fields.{announceOf};
+ghost use Rattle.senders.specs.Port.{planOf, outcomeOf};
+ghost use Rattle.slots.specs.Words.{portWords, gradeWord, wordsAfter};
+ghost use Rattle.slots.specs.Words as held;
+ghost use Rattle.ports.specs.Intake.{grandmasterOf, noticeOf, judgedOf, admittedOf, planAt, stateAfter};
+ghost use Rattle.ports.specs.When.{takeNumber};
 ghost use Rattle.ports.specs.Words.{allWords};
+ghost use Rattle.words.specs.Words.{portOf};
 use crate::WORDS;
 use message::announce::Announced;
 use message::announce::Heard;
@@ -14,6 +20,7 @@ use rank::PortIdentity;
 use refusal::Outcome;
 use refusal::Refusal;
 use senders::Notice;
+use senders::Plan;
 
 // What an Announce is judged by: our domain and clockIdentity, and the magic of White Rabbit's TLVs.
 pub struct Settings {
@@ -83,6 +90,33 @@ fn admit(port: u8, s: &[u8], set: Settings) -> Admitted
     }
 }
 
+// The word of the quality in an Announce's octets: its keys stand there in their order, and stepsRemoved apart from them.
+fn grade_at(s: &[u8]) -> u64
+    requires { ⌜ 64 ≤ length (now s) ⌝ }
+    ensures { λ r. ⌜ r ≡ gradeWord (grandmasterOf (announceOf (now (s .entry)))) (announceOf (now (s .entry)) .steps) ⌝ }
+{
+    octets::held::u48_at(s, 47) * 0x10000 + (octets::held::u16_at(s, 61) as u64)
+}
+
+// Takes a notice into the words of its port, or refuses it. What is only kept is read where it is written: read before the
+// slots are searched, it would be put aside and fetched again.
+fn enter(ws: &mut [u64], t: u64, a: Notice, s: &[u8]) -> Outcome
+    requires { ⌜ (length (now ws) ≡ portWords) × (64 ≤ length (now s)) ⌝ }
+    requires { ⌜ (a .grandmaster ≡ grandmasterOf (announceOf (now s))) × (a .steps ≡ announceOf (now s) .steps) ⌝ }
+    ensures { λ r. ⌜ (r ≡ outcomeOf (planOf (held.portOf (now (ws .entry))) t a)) × (now (ws .exit) ≡ wordsAfter (now (ws .entry)) t (planOf (held.portOf (now (ws .entry))) t a)) ⌝ }
+{
+    let p = slots::plan(ws, t, a);
+    match p {
+        Plan::Refuse(x) => Outcome::Refused(x),
+        Plan::Put(i, r) => {
+            let identity = octets::held::u64_at(s, 53);
+            let grade = grade_at(s);
+            slots::put(ws, i, t, r, identity, grade);
+            Outcome::Done
+        }
+    }
+}
+
 fn take_in(words: &mut [u64], port: u8, t: u64, s: &[u8], set: Settings) -> Outcome
     requires { ⌜ length (now words) ≡ allWords ⌝ }
     ensures { λ r. ⌜ (r ≡ outcomeOf (planAt set (now (words .entry)) port t (now (s .entry)))) × (now (words .exit) ≡ stateAfter (now (words .entry)) port t (planAt set (now (words .entry)) port t (now (s .entry)))) ⌝ }
@@ -92,7 +126,7 @@ fn take_in(words: &mut [u64], port: u8, t: u64, s: &[u8], set: Settings) -> Outc
         Admitted::Refused(x) => Outcome::Refused(x),
         Admitted::Notice(a) => {
             let b = crate::start(port);
-            slots::take(&mut words[b..b + slots::WORDS], t, a)
+            enter(&mut words[b..b + slots::WORDS], t, a, s)
         }
     }
 }
@@ -102,4 +136,16 @@ pub fn take(words: &mut [u64; WORDS], port: u8, t: u64, s: &[u8], set: Settings)
     ensures { λ r. ⌜ (r ≡ outcomeOf (planAt set (now (words .entry)) port t (now (s .entry)))) × (now (words .exit) ≡ stateAfter (now (words .entry)) port t (planAt set (now (words .entry)) port t (now (s .entry)))) ⌝ }
 {
     take_in(&mut words[..], port, t, s, set)
+}
+
+// The same on the port that a word names, with the answer's number: what a host calls for one message, and a burst for each of its own. It is
+// compiled once and called by both, so the answer is a number, which comes back in a register. A word past the last port is refused as it is.
+pub fn answer(words: &mut [u64; WORDS], port: u64, t: u64, s: &[u8], set: Settings) -> u64
+    ensures answer { λ r. ⌜ r ≡ takeNumber set (now (words .entry)) (portOf port) t (now (s .entry)) ⌝ }
+    ensures words { λ _. ⌜ now (words .exit) ≡ stateAfter (now (words .entry)) (portOf port) t (planAt set (now (words .entry)) (portOf port) t (now (s .entry))) ⌝ }
+{
+    if (refusal::PORTS as u64) < port {
+        return refusal::code(Outcome::Refused(Refusal::Port));
+    }
+    refusal::code(take(words, port as u8, t, s, set))
 }

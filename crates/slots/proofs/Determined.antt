@@ -3,8 +3,11 @@ use mathlib.Core.Path.{_∙_, refl, sym}
 use Rattle.laws.proofs.Fixes.{Fixes}
 use Rattle.slots.proofs as its
 
-pub take-determined : Fixes its.take.ended its.take.Reads.Post
-take-determined κs a x y v w p q = (p .0 ∙ sym (q .0), λ i. ((p .1 ∙ sym (q .1)) i, w .1))
+pub plan-determined : Fixes its.plan.ended its.plan.Reads.Post
+plan-determined κs a x y v w p q = (p ∙ sym q, refl)
+
+pub put-determined : Fixes its.put.ended its.put.Reads.Post
+put-determined κs a x y v w p q = (refl, λ i. ((p ∙ sym q) i, w .1))
 
 pub slot-determined : Fixes its.slot.ended its.slot.Reads.Post
 slot-determined κs a x y v w p q = (p ∙ sym q, refl)

@@ -8,12 +8,12 @@
 ghost use mathlib.Core.Path.{_≡_};
 ghost use Prim.Native.Nat.{_-_, _<_};
 ghost use lib.ListN.{length, set};
-ghost use Rattle.senders.specs.Port.{first, planOf, outcomeOf, askedOf, candidateIn, bestOf};
+ghost use Rattle.senders.specs.Port.{first, planOf, askedOf, candidateIn, bestOf};
+ghost use Rattle.senders.specs.declared.Plan.the-variants.{Put};
 ghost use Rattle.slots.specs.Words.{ofSix, sixOf, idWord, gradeWord, slotAt, slotsOf, portOf, putSlot, wordsAfter, soughtIn, seenIn, beforeIn, laterIn, aheadIn, outdoesIn, portWords};
 ghost use Rattle.slots.specs.Places.{slotAmong, placeIn, aboveIn};
 use rank::Grandmaster;
 use rank::PortIdentity;
-use refusal::Outcome;
 use refusal::Refusal;
 use senders::Asked;
 use senders::Notice;
@@ -77,33 +77,20 @@ fn pack_id(port: u16, sequence: u16, wrflags: u16, receipts: u16) -> u64
         + 0x1000000000000 * (receipts as u64)
 }
 
-// The grandmaster's quality in the order of its keys, priority1 highest, and stepsRemoved.
-fn pack_grade(g: Grandmaster, steps: u16) -> u64
-    ensures { λ r. ⌜ r ≡ gradeWord g steps ⌝ }
-{
-    steps as u64
-        + 0x10000 * (g.priority2 as u64)
-        + 0x1000000 * (g.variance as u64)
-        + 0x10000000000 * (g.accuracy as u64)
-        + 0x1000000000000 * (g.class as u64)
-        + 0x100000000000000 * (g.priority1 as u64)
-}
-
-// Puts a record into a slot's six words.
-fn write(s: &mut [u64], r: Record)
+// Puts a record into a slot's six words; the last two are handed on as they were read.
+fn write(s: &mut [u64], r: Record, identity: u64, grade: u64)
     requires { ⌜ length (now s) ≡ 6 ⌝ }
+    requires { ⌜ (identity ≡ r .notice .grandmaster .identity) × (grade ≡ gradeWord (r .notice .grandmaster) (r .notice .steps)) ⌝ }
     ensures { λ _. ⌜ now (s .exit) ≡ sixOf r ⌝ }
 {
     let n = r.notice;
-    let g = n.grandmaster;
     let x = n.sender;
     let id = pack_id(x.port, n.sequence, n.wrflags, r.receipts);
-    let grade = pack_grade(g, n.steps);
     s[0] = x.clock;
     s[1] = id;
     s[2] = r.newest;
     s[3] = r.older;
-    s[4] = g.identity;
+    s[4] = identity;
     s[5] = grade;
 }
 
@@ -117,12 +104,13 @@ fn load(ws: &[u64], i: usize) -> Record
 }
 
 // Slot `i` holds the record afterwards, and no other word changes.
-fn store(ws: &mut [u64], i: usize, r: Record)
+fn store(ws: &mut [u64], i: usize, r: Record, identity: u64, grade: u64)
     requires { ⌜ (length (now ws) ≡ portWords) × (i < 16) ⌝ }
+    requires { ⌜ (identity ≡ r .notice .grandmaster .identity) × (grade ≡ gradeWord (r .notice .grandmaster) (r .notice .steps)) ⌝ }
     ensures { λ _. ⌜ now (ws .exit) ≡ putSlot (now (ws .entry)) i r ⌝ }
 {
     let b = 2 + 6 * i;
-    write(&mut ws[b..b + 6], r);
+    write(&mut ws[b..b + 6], r, identity, grade);
 }
 
 // Whether a record is what is looked for.
@@ -167,7 +155,7 @@ fn find_free(ws: &[u64], w: u64, t: u64) -> usize
 }
 
 // What an Announce at `t` is to do.
-fn plan(ws: &[u64], t: u64, a: Notice) -> Plan
+pub fn plan(ws: &[u64], t: u64, a: Notice) -> Plan
     requires { ⌜ length (now ws) ≡ portWords ⌝ }
     ensures { λ p. ⌜ p ≡ planOf (portOf (now (ws .entry))) t a ⌝ }
 {
@@ -183,20 +171,15 @@ fn plan(ws: &[u64], t: u64, a: Notice) -> Plan
     senders::unknown(find_free(ws, w, t), t, a)
 }
 
-// Takes an Announce at `t`, or refuses it.
-pub fn take(ws: &mut [u64], t: u64, a: Notice) -> Outcome
-    requires { ⌜ length (now ws) ≡ portWords ⌝ }
-    ensures { λ r. ⌜ (r ≡ outcomeOf (planOf (portOf (now (ws .entry))) t a)) × (now (ws .exit) ≡ wordsAfter (now (ws .entry)) t (planOf (portOf (now (ws .entry))) t a)) ⌝ }
+// Carries out a plan that puts a record into slot `i`: the record and the time are written. The grandmaster and the word of its
+// quality are handed on by the caller, who reads them where they are kept and not before the slots are searched.
+pub fn put(ws: &mut [u64], i: usize, t: u64, r: Record, identity: u64, grade: u64)
+    requires { ⌜ (length (now ws) ≡ portWords) × (i < 16) ⌝ }
+    requires { ⌜ (identity ≡ r .notice .grandmaster .identity) × (grade ≡ gradeWord (r .notice .grandmaster) (r .notice .steps)) ⌝ }
+    ensures { λ _. ⌜ now (ws .exit) ≡ wordsAfter (now (ws .entry)) t (Put i r) ⌝ }
 {
-    let p = plan(ws, t, a);
-    match p {
-        Plan::Refuse(x) => Outcome::Refused(x),
-        Plan::Put(i, r) => {
-            store(ws, i, r);
-            ws[0] = t;
-            Outcome::Done
-        }
-    }
+    store(ws, i, r, identity, grade);
+    ws[0] = t;
 }
 
 // What slot `i` holds.

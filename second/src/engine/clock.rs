@@ -23,6 +23,17 @@ pub struct Clock {
     link_settings: [LinkSettings; PORT_COUNT],
 }
 
+/// The most messages that are taken in one call, refused ones counted.
+const LONGEST_BURST: usize = 288;
+
+/// A message as a port received it.
+#[derive(Clone, Debug)]
+pub struct Received {
+    pub port: u8,
+    pub time: u64,
+    pub octets: Vec<u8>,
+}
+
 /// What every port is to be at a time, and what that follows from.
 #[derive(Clone, Debug, PartialEq, Eq)]
 pub struct Decided {
@@ -81,10 +92,17 @@ impl Clock {
 
     /// Takes an Announce that a port received at a time: 8, the reading checks,
     /// 3 if it is no Announce, 9, 10, then 11, 12, 13.
-    pub fn take(&mut self, port: u8, time: u64, lent: &[u8]) -> Result<(), Refusal> {
-        check_port(port)?;
-        let announced = self.announced(lent)?;
-        self.senders[place(port)].take(time, announced)
+    pub fn take(&mut self, received: &Received) -> Result<(), Refusal> {
+        check_port(received.port)?;
+        let announced = self.announced(&received.octets)?;
+        self.senders[place(received.port)].take(received.time, announced)
+    }
+
+    /// Takes the messages of a burst one after another, each with an answer of
+    /// its own: 17 for too many, and then none is taken.
+    pub fn take_burst(&mut self, burst: &[Received]) -> Result<Vec<Result<(), Refusal>>, Refusal> {
+        refuse_if(burst.len() > LONGEST_BURST, Refusal::Many)?;
+        Ok(burst.iter().map(|received| self.take(received)).collect())
     }
 
     /// What an Announce in our domain and from another clock tells.

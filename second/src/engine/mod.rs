@@ -1,6 +1,6 @@
-//! The rules of document 01, with request (i) of document 02, written from
-//! these, the sources they name and the agreed readings alone.  Nothing here
-//! knows of lines or text.
+//! The rules of document 01, with requests (i) and (ii) of document 02, written
+//! from these, the sources they name and the agreed readings alone.  Nothing
+//! here knows of lines or text.
 
 pub mod candidate;
 pub mod clock;

@@ -70,6 +70,7 @@ fn call(clock: &mut Clock, mut tokens: Tokens) -> Option<String> {
         b"link" => answer_link(clock, tokens),
         b"interval" => answer_interval(clock, tokens),
         b"take" => answer_take(clock, tokens),
+        b"burst" => answer_burst(clock, tokens),
         b"candidates" => answer_candidates(clock, tokens),
         b"best" => answer_best(clock, tokens),
         b"all" => answer_all(clock, tokens),
@@ -390,11 +391,30 @@ fn answer_interval(clock: &mut Clock, mut tokens: Tokens) -> Option<String> {
 
 /// `take PORT TIME OCTETS`
 fn answer_take(clock: &mut Clock, mut tokens: Tokens) -> Option<String> {
-    let port = tokens.number()?;
-    let time = tokens.number()?;
-    let octets = tokens.octets()?;
+    let received = message_tokens::received(&mut tokens)?;
     tokens.end()?;
-    Some(done(clock.take(port, time, &octets)))
+    Some(done(clock.take(&received)))
+}
+
+/// `burst N`, then N times PORT TIME OCTETS
+fn answer_burst(clock: &mut Clock, mut tokens: Tokens) -> Option<String> {
+    let burst = message_tokens::burst(&mut tokens)?;
+    tokens.end()?;
+    Some(match clock.take_burst(&burst) {
+        Ok(results) => each_done(results),
+        Err(refusal) => refused(refusal),
+    })
+}
+
+/// The answer to a burst that was taken: how many messages it had, then the
+/// answer to each.
+fn each_done(results: Vec<Result<(), Refusal>>) -> String {
+    let mut text = format!("ok {}", results.len());
+    for result in results {
+        text.push(' ');
+        text.push_str(&done(result));
+    }
+    text
 }
 
 /// `candidates PORT TIME`

@@ -4,9 +4,6 @@ use super::tokens::Tokens;
 use crate::engine::candidate::{Candidate, Quality};
 use crate::engine::comparison::DataSet;
 
-/// The greatest count a list may be given with.
-const GREATEST_COUNT: u64 = 400;
-
 /// priority1 class accuracy variance priority2
 pub fn quality(tokens: &mut Tokens) -> Option<Quality> {
     Some(Quality {
@@ -43,9 +40,6 @@ pub fn data_set(tokens: &mut Tokens) -> Option<DataSet> {
 
 /// A count, then that many candidates.
 pub fn list(tokens: &mut Tokens) -> Option<Vec<Candidate>> {
-    let count: u64 = tokens.number()?;
-    if count > GREATEST_COUNT {
-        return None;
-    }
+    let count = tokens.count()?;
     (0..count).map(|_| candidate(tokens)).collect()
 }

@@ -1,6 +1,8 @@
-//! The fields of a message to be written, taken from a line's tokens.
+//! Messages taken from a line's tokens: the fields of one to be written, and
+//! those that ports received.
 
 use super::tokens::Tokens;
+use crate::engine::clock::Received;
 use crate::engine::message::{Announce, Body, Header, MessageType, Timestamp};
 
 /// TRANSPORT DOMAIN FLAGS CORRECTION CLOCK PORT SEQUENCE INTERVAL
@@ -49,4 +51,19 @@ fn announce(tokens: &mut Tokens) -> Option<Announce> {
         steps_removed: tokens.number()?,
         time_source: tokens.number()?,
     })
+}
+
+/// PORT TIME OCTETS
+pub fn received(tokens: &mut Tokens) -> Option<Received> {
+    Some(Received {
+        port: tokens.number()?,
+        time: tokens.number()?,
+        octets: tokens.octets()?,
+    })
+}
+
+/// A count, then that many times PORT TIME OCTETS.
+pub fn burst(tokens: &mut Tokens) -> Option<Vec<Received>> {
+    let count = tokens.count()?;
+    (0..count).map(|_| received(tokens)).collect()
 }

@@ -8,6 +8,8 @@ pub mod message_tokens;
 pub mod show;
 pub mod tokens;
 #[cfg(test)]
+mod worked_bursts;
+#[cfg(test)]
 mod worked_lines;
 #[cfg(test)]
 mod worked_rows;

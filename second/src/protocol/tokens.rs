@@ -3,6 +3,9 @@
 
 use crate::engine::message::PortIdentity;
 
+/// The greatest count that a line may give.
+const GREATEST_COUNT: u64 = 400;
+
 /// What is left of a line; none once its last token has been taken.
 pub struct Tokens<'a> {
     rest: Option<&'a [u8]>,
@@ -34,6 +37,11 @@ impl<'a> Tokens<'a> {
     /// A number that the type `N` holds.
     pub fn number<N: TryFrom<i128>>(&mut self) -> Option<N> {
         N::try_from(number(self.word()?)?).ok()
+    }
+
+    /// The count of what follows.
+    pub fn count(&mut self) -> Option<u64> {
+        self.number().filter(|&count| count <= GREATEST_COUNT)
     }
 
     /// A number that is 0 or 1.
@@ -152,6 +160,16 @@ mod tests {
         assert_eq!(one::<i8>("0xff"), None);
         assert_eq!(one::<i64>("0x8000000000000000"), None);
         assert_eq!(one::<u64>("18446744073709551616"), None);
+    }
+
+    #[test]
+    fn counts_up_to_the_greatest() {
+        let counted = |line: &str| Tokens::of(line.as_bytes()).count();
+        assert_eq!(counted("0"), Some(0));
+        assert_eq!(counted("0x190"), Some(400));
+        for line in ["401", "-1", "18446744073709551615", "", "one"] {
+            assert_eq!(counted(line), None, "{line:?}");
+        }
     }
 
     #[test]

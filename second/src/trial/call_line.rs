@@ -3,6 +3,7 @@
 
 use super::random::Random;
 use crate::engine::candidate::Quality;
+use crate::engine::clock::Received;
 use crate::engine::message::PortIdentity;
 
 /// The tokens so far.
@@ -50,6 +51,13 @@ impl CallLine {
     pub fn octets(self, random: &mut Random, octets: &[u8]) -> CallLine {
         let spelled = spell_octets(random, octets);
         self.word(&spelled)
+    }
+
+    /// The line with a message, before it the port that received it and the time.
+    pub fn received(self, random: &mut Random, received: &Received) -> CallLine {
+        self.number(random, received.port)
+            .number(random, received.time)
+            .octets(random, &received.octets)
     }
 
     /// The line's characters.

@@ -28,6 +28,7 @@ pub enum Call {
     Link,
     Interval,
     Take,
+    Burst,
     Candidates,
     Best,
     All,
@@ -35,7 +36,7 @@ pub enum Call {
 }
 
 /// Every call with its name.
-pub const CALLS: [(&str, Call); 28] = [
+pub const CALLS: [(&str, Call); 29] = [
     ("fresh", Call::Fresh),
     ("clock", Call::Clock),
     ("domain", Call::Domain),
@@ -60,6 +61,7 @@ pub const CALLS: [(&str, Call); 28] = [
     ("link", Call::Link),
     ("interval", Call::Interval),
     ("take", Call::Take),
+    ("burst", Call::Burst),
     ("candidates", Call::Candidates),
     ("best", Call::Best),
     ("all", Call::All),

@@ -2,6 +2,7 @@
 //! lines as it goes, so that later lines can be aimed at what the earlier ones
 //! made of it.
 
+use super::burst_lines::burst_lines;
 use super::calls::Call;
 use super::comparison_lines::compare_line;
 use super::delay_lines::delay_line;
@@ -102,9 +103,14 @@ impl Generator {
         if matches!(call, Call::Best | Call::All) && share < 8 {
             return self.line_of_scene(share == 0);
         }
+        if call == Call::Burst && share == 0 {
+            return self.line_of_scene(true);
+        }
         let beside = match call {
             Call::Link if share < 4 => Call::LinkSettings,
             Call::Take if share < 1 => Call::Interval,
+            Call::Burst if share < 3 => Call::Interval,
+            Call::Burst if share < 8 => Call::Take,
             Call::Candidates | Call::Records if share < 20 => Call::Take,
             Call::Candidates | Call::Records if share < 21 => Call::Interval,
             Call::Best | Call::All if share < 9 => Call::Interval,
@@ -171,6 +177,10 @@ impl Generator {
                 let lines = history::take_lines(random, &self.clock);
                 self.first_of(lines)
             }
+            Call::Burst => {
+                let lines = burst_lines(random, &self.clock);
+                self.first_of(lines)
+            }
             Call::Candidates => history::candidates_line(random, &self.clock),
             Call::Best => best_line(random, &self.clock),
             Call::All => all_line(random, &self.clock),
@@ -189,7 +199,9 @@ fn refused_to_take(vector: &Vector) -> Option<u8> {
 #[cfg(test)]
 mod tests {
     use super::*;
+    use crate::engine::candidate::PORTS;
     use crate::trial::calls::{calls_named, CALLS};
+    use crate::trial::kinds::answers_in_burst;
 
     /// The answers to so many lines of a call among those of some calls.
     fn answers_of(name: &str, calls: &str, count: usize) -> Vec<String> {
@@ -242,6 +254,78 @@ mod tests {
         assert_often(&take, 100, &["refused 6 64", "refused 7 64"]);
         let walk = answers_of("walk", "walk", 6000);
         assert_often(&walk, 100, &["ok 0", "ok 1 44 ", "ok 2 ", "ok 6 "]);
+    }
+
+    /// The messages of a line of `burst`, each as a line of `take`.
+    fn lines_in_burst(line: &[u8]) -> Vec<Vec<u8>> {
+        let words: Vec<&[u8]> = line.split(|&c| c == b' ').collect();
+        let messages = words[2..].chunks(3);
+        messages
+            .map(|one| [&b"take "[..], &one.join(&b' ')].concat())
+            .collect()
+    }
+
+    #[test]
+    fn a_burst_is_its_messages_one_after_another() {
+        let mut generator = Generator::new(calls_named("burst").unwrap(), 7);
+        let mut taken = 0;
+        for _ in 0..3000 {
+            let mut clock = generator.clock.clone();
+            let vector = generator.next_vector();
+            let answers = answers_in_burst(vector.answer.as_deref().unwrap_or_default());
+            if !vector.line.starts_with(b"burst ") || answers.is_empty() {
+                continue;
+            }
+            taken += 1;
+            let lines = lines_in_burst(&vector.line);
+            let singly = lines.iter().filter_map(|line| answer(&mut clock, line));
+            assert_eq!(answers, singly.collect::<Vec<_>>());
+            for port in PORTS {
+                let senders = |clock: &Clock| *clock.senders(port).unwrap();
+                assert_eq!(senders(&clock), senders(&generator.clock));
+            }
+        }
+        assert!(taken > 800);
+    }
+
+    /// What the lines of `burst` among so many tell as their count, and their
+    /// answers.
+    fn bursts(lines: usize) -> Vec<(u64, String)> {
+        let mut generator = Generator::new(calls_named("burst").unwrap(), 7);
+        (0..lines)
+            .map(|_| generator.next_vector())
+            .filter_map(|vector| Some((count_of_list("burst", 0, &vector.line)?, vector.answer?)))
+            .collect()
+    }
+
+    #[test]
+    fn bursts_of_every_size_with_every_refusal_come_often() {
+        let bursts = bursts(8000);
+        for (count, begin, least) in [
+            (0, "ok 0", 50),
+            (1, "ok 1 ", 100),
+            (7, "ok 7 ", 100),
+            (17, "ok 17 ", 20),
+            (287, "ok 287 ", 10),
+            (288, "ok 288 ", 10),
+            (289, "refused 17", 10),
+            (400, "refused 17", 1),
+            (401, "bad line", 1),
+        ] {
+            let of_size = bursts.iter().filter(|(told, _)| *told == count);
+            let answered = of_size.filter(|(_, answer)| answer.starts_with(begin));
+            assert!(answered.count() >= least, "{count} {begin}");
+        }
+        let messages: Vec<String> = bursts
+            .iter()
+            .flat_map(|(_, answer)| answers_in_burst(answer))
+            .map(|answer| answer + " ")
+            .collect();
+        assert_often(&messages, 5000, &["ok "]);
+        for number in 1..=13 {
+            assert_often(&messages, 100, &[&format!("refused {number} ")]);
+        }
+        assert_often(&messages, 100, &["refused 6 64 ", "refused 7 64 "]);
     }
 
     #[test]

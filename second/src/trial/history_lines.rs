@@ -1,31 +1,34 @@
 //! Lines of `take`, `candidates`, `records` and `interval` that make up whole
 //! histories: senders that come back, come too often or come new, at times that
-//! stand still, run, go back or hit the ends of windows exactly.
+//! stand still, run, go back or hit the ends of windows exactly.  What makes up
+//! the messages of a `burst` is here too.
 
 use super::call_line::CallLine;
 use super::candidates::{port, quality, FOREIGN_PORTS};
 use super::messages::{self, Draft};
 use super::random::Random;
 use super::values;
-use crate::engine::clock::Clock;
+use crate::engine::clock::{Clock, Received};
 use crate::engine::message::{Announce, Body, Header, MessageType, PortIdentity, LISTED_TYPES};
 use crate::engine::senders::{Record, Senders};
 
 /// Lines of `take`: mostly one, now and then a flood of new names.
 pub fn take_lines(random: &mut Random, clock: &Clock) -> Vec<Vec<u8>> {
-    if random.chance(1, 500) {
-        return flood(random, clock);
-    }
-    vec![take_line(random, clock)]
+    let run = if random.chance(1, 500) {
+        flood(random, clock)
+    } else {
+        vec![received(random, clock)]
+    };
+    run.iter().map(|one| line_of_take(random, one)).collect()
 }
 
 /// Announces on one port, each from a sender that was never heard before, at
 /// times that stand still or hardly run: more than the port has slots.
-fn flood(random: &mut Random, clock: &Clock) -> Vec<Vec<u8>> {
+fn flood(random: &mut Random, clock: &Clock) -> Vec<Received> {
     let port = asked_port(random);
     let mut time = senders_of(clock, port).last_time;
     let count = random.pick(&[17, 18, 33, 100]);
-    let mut lines = Vec::new();
+    let mut run = Vec::new();
     for _ in 0..count {
         time = time.saturating_add(random.below(2));
         let header = Header {
@@ -34,14 +37,14 @@ fn flood(random: &mut Random, clock: &Clock) -> Vec<Vec<u8>> {
             ..messages::header(random)
         };
         let body = announce_body(random);
-        let draft = Draft::sound(random, clock.magic, header, body);
-        lines.push(line_of_take(random, port, time, &draft));
+        let octets = Draft::sound(random, clock.magic, header, body).octets;
+        run.push(Received { port, time, octets });
     }
-    lines
+    run
 }
 
-/// A line of `take`.
-fn take_line(random: &mut Random, clock: &Clock) -> Vec<u8> {
+/// What a port is to take: mostly an Announce, now and then with a fault.
+pub fn received(random: &mut Random, clock: &Clock) -> Received {
     let port = asked_port(random);
     let senders = senders_of(clock, port);
     let time = time_to_take(random, senders);
@@ -51,21 +54,42 @@ fn take_line(random: &mut Random, clock: &Clock) -> Vec<u8> {
         4 | 5 => draft.give_bad_tail(random, clock.magic),
         _ => {}
     }
-    line_of_take(random, port, time, &draft)
+    let octets = draft.octets;
+    Received { port, time, octets }
 }
 
-/// The line of `take` for a port, a time and a message.
-pub fn line_of_take(random: &mut Random, port: u8, time: u64, draft: &Draft) -> Vec<u8> {
-    CallLine::named("take")
-        .number(random, port)
-        .number(random, time)
-        .octets(random, &draft.octets)
-        .text()
+/// A message that the clock has taken or refused, so that the next can be aimed
+/// at what it made of the clock.
+pub fn heard(clock: &mut Clock, received: Received) -> Received {
+    let _ = clock.take(&received);
+    received
 }
 
-/// A line of `candidates`.
+/// The line of `take` for a message.
+pub fn line_of_take(random: &mut Random, received: &Received) -> Vec<u8> {
+    CallLine::named("take").received(random, received).text()
+}
+
+/// The line of `burst` for some messages.
+pub fn line_of_burst(random: &mut Random, burst: &[Received]) -> Vec<u8> {
+    line_of_counted(random, burst.len() as u64, burst)
+}
+
+/// The line of `burst` for some messages that tells a count, theirs or another.
+pub fn line_of_counted(random: &mut Random, count: u64, burst: &[Received]) -> Vec<u8> {
+    let line = CallLine::named("burst").number(random, count);
+    let add = |line: CallLine, one| line.received(random, one);
+    burst.iter().fold(line, add).text()
+}
+
+/// A line of `candidates` for any port.
 pub fn candidates_line(random: &mut Random, clock: &Clock) -> Vec<u8> {
     let port = asked_port(random);
+    line_of_candidates(random, clock, port)
+}
+
+/// A line of `candidates` for a port.
+pub fn line_of_candidates(random: &mut Random, clock: &Clock, port: u8) -> Vec<u8> {
     let time = time_to_ask(random, senders_of(clock, port));
     CallLine::named("candidates")
         .number(random, port)
@@ -106,7 +130,7 @@ pub fn interval_line(random: &mut Random, port: u8) -> Vec<u8> {
 
 /// A port: mostly one of three, so that their histories grow; now and then none
 /// of the clock's.
-fn asked_port(random: &mut Random) -> u8 {
+pub fn asked_port(random: &mut Random) -> u8 {
     match random.below(40) {
         0 => random.pick(&FOREIGN_PORTS),
         1..=9 => port(random),
@@ -120,7 +144,7 @@ pub fn senders_of(clock: &Clock, port: u8) -> &Senders {
 }
 
 /// The time of an Announce: mostly a small step on.
-fn time_to_take(random: &mut Random, senders: &Senders) -> u64 {
+pub fn time_to_take(random: &mut Random, senders: &Senders) -> u64 {
     let last = senders.last_time;
     let window = senders.window();
     match random.below(1000) {
@@ -193,7 +217,7 @@ fn some_record(random: &mut Random, senders: &Senders) -> Option<Record> {
 }
 
 /// An Announce, mostly one that the port takes, now and then another message.
-fn announcement(random: &mut Random, clock: &Clock, senders: &Senders) -> Draft {
+pub fn announcement(random: &mut Random, clock: &Clock, senders: &Senders) -> Draft {
     let held = some_record(random, senders);
     let source = source(random, clock, held);
     let known = senders
@@ -265,7 +289,7 @@ fn source(random: &mut Random, clock: &Clock, held: Option<Record>) -> PortIdent
 }
 
 /// A sender that was hardly heard before.
-fn new_name(random: &mut Random) -> PortIdentity {
+pub fn new_name(random: &mut Random) -> PortIdentity {
     PortIdentity {
         clock: random.word(),
         port: 1,

@@ -12,9 +12,20 @@ pub struct Kinds {
 }
 
 impl Kinds {
-    /// Counts one line.
+    /// Counts one line, and each message of a burst.
     pub fn count(&mut self, vector: &Vector) {
-        let kind = (call_of(&vector.line), kind_of(vector));
+        let call = call_of(&vector.line);
+        if let ("burst", Some(answer)) = (call.as_str(), &vector.answer) {
+            for one in answers_in_burst(answer) {
+                self.add(&call, format!("message {}", taken_kind(&one)));
+            }
+        }
+        self.add(&call, kind_of(vector));
+    }
+
+    /// Counts one kind.
+    fn add(&mut self, call: &str, kind: String) {
+        let kind = (call.to_string(), kind);
         *self.counts.entry(kind).or_default() += 1;
     }
 
@@ -46,7 +57,8 @@ fn kind_of(vector: &Vector) -> String {
     let words: Vec<&str> = answer.split(' ').collect();
     match (call_of(&vector.line).as_str(), words[0]) {
         ("write" | "signal", "refused") => format!("refused {}", words[1]),
-        (_, "refused") if words.len() == 3 => placed_kind(words[1], words[2]),
+        (_, "refused") => taken_kind(answer),
+        ("burst", "ok") => format!("ok {} messages", burst_kind(words[1])),
         ("read", "ok") => format!("ok type {}", words[1]),
         ("walk", "ok") => format!("ok {} TLVs", walked_kind(words[1])),
         ("lookup", "found") if words[2] == "-" => "found empty".to_string(),
@@ -75,12 +87,33 @@ fn kind_of(vector: &Vector) -> String {
     }
 }
 
-/// A refusal's number with its place: one of the three where tails begin, or
-/// any other.
-fn placed_kind(number: &str, at: &str) -> String {
-    match at {
-        "44" | "54" | "64" => format!("refused {number} at {at}"),
-        _ => format!("refused {number} elsewhere"),
+/// The answers to the messages of a burst, each as `take` would give it; none
+/// where the burst was not taken.
+pub fn answers_in_burst(answer: &str) -> Vec<String> {
+    let parted = answer
+        .replace(" ok", "\nok")
+        .replace(" refused", "\nrefused");
+    parted.lines().skip(1).map(str::to_string).collect()
+}
+
+/// The kind of `ok` or a refusal: of one that tells a place, whether it is one
+/// of the three where tails begin.
+fn taken_kind(answer: &str) -> String {
+    let words: Vec<&str> = answer.split(' ').collect();
+    match words[..] {
+        ["refused", number, "44" | "54" | "64"] => format!("refused {number} at {}", words[2]),
+        ["refused", number, _] => format!("refused {number} elsewhere"),
+        _ => answer.to_string(),
+    }
+}
+
+/// How many messages a burst has, exactly at the edges.
+fn burst_kind(count: &str) -> &str {
+    match count.len() {
+        1 if count > "1" => "2 to 9",
+        2 => "10 to 99",
+        3 if count < "287" => "100 to 286",
+        _ => count,
     }
 }
 

@@ -3,6 +3,7 @@
 //! of how often each answer came.
 
 pub mod bad_tails;
+pub mod burst_lines;
 pub mod call_line;
 pub mod calls;
 pub mod candidates;

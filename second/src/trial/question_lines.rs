@@ -15,6 +15,11 @@ pub fn best_line(random: &mut Random, clock: &Clock) -> Vec<u8> {
     } else {
         busy_port(random, clock)
     };
+    line_of_best(random, clock, port)
+}
+
+/// A line of `best` for a port.
+pub fn line_of_best(random: &mut Random, clock: &Clock, port: u8) -> Vec<u8> {
     let time = time_to_ask(random, senders_of(clock, port));
     CallLine::named("best")
         .number(random, port)

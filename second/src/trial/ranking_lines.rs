@@ -114,7 +114,7 @@ fn spoil_port(random: &mut Random, run: &mut [Candidate]) {
 }
 
 /// The same in another order.
-fn shuffled(random: &mut Random, mut run: Vec<Candidate>) -> Vec<Candidate> {
+pub fn shuffled(random: &mut Random, mut run: Vec<Candidate>) -> Vec<Candidate> {
     for at in 1..run.len() {
         run.swap(at, random.place(at + 1));
     }

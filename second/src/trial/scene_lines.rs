@@ -1,20 +1,20 @@
-//! Scenes for `best` and `all`: a clock with its own set, and senders on many
-//! ports whose Announces bring every decision about.  A scene answers its own
-//! lines as it goes, so that each can be aimed at what the ones before it made
-//! of the clock.
+//! Scenes for `best`, `all` and `burst`: a clock with its own set, and senders
+//! on many ports whose Announces bring every decision about.  A scene answers
+//! its own lines as it goes, so that each can be aimed at what the ones before
+//! it made of the clock.
 
 use super::calls::Call;
 use super::candidates::{
     all_ports, candidate, change_identity, change_quality, change_steps, port, quality,
 };
-use super::history_lines::{interval_line, line_of_take, senders_of};
+use super::history_lines::{heard, interval_line, line_of_burst, line_of_take, senders_of};
 use super::messages::{self, Draft};
 use super::question_lines::{all_line, best_line, heard_ports, latest_time};
 use super::random::Random;
 use super::settings_lines as settings;
 use super::values;
 use crate::engine::candidate::{Candidate, Quality};
-use crate::engine::clock::Clock;
+use crate::engine::clock::{Clock, Received};
 use crate::engine::message::{Announce, Body, Header, PortIdentity};
 use crate::engine::senders::candidate_of;
 use crate::protocol::answer::answer;
@@ -26,10 +26,12 @@ const SENDER_CLOCKS: u64 = 0x001b_19ff_fe00_0000;
 /// How many there are.
 const SENDER_CLOCK_COUNT: u64 = 18;
 
-/// A scene in the making: its lines, and the clock they lead to.
+/// A scene in the making: its lines, the clock they lead to, and whether each
+/// round of Announces is one burst.
 struct Scene {
     clock: Clock,
     lines: Vec<Vec<u8>>,
+    in_bursts: bool,
 }
 
 /// The lines of a scene that ends with some of the questions asked for.
@@ -37,6 +39,7 @@ pub fn scene_lines(random: &mut Random, clock: &Clock, asked: &[Call]) -> Vec<Ve
     let mut scene = Scene {
         clock: clock.clone(),
         lines: Vec::new(),
+        in_bursts: asked.contains(&Call::Burst) && random.chance(7, 8),
     };
     scene.begin(random);
     let base = base(random);
@@ -73,7 +76,8 @@ pub fn later_line(random: &mut Random, clock: &Clock) -> Option<Vec<u8>> {
         _ => {}
     }
     let time = later(random, latest_time(clock), 20_000_000);
-    Some(announce_line(random, clock, &speaker, time))
+    let received = announced(random, clock, &speaker, time);
+    Some(line_of_take(random, &received))
 }
 
 impl Scene {
@@ -111,12 +115,21 @@ impl Scene {
         let mut time = start_time(random, &self.clock);
         let rounds = random.pick(&[2, 2, 2, 3]);
         for _ in 0..rounds {
+            let mut burst = Vec::new();
             for speaker in speakers {
                 if random.chance(1, 10) {
                     continue;
                 }
                 time = later(random, time, pace);
-                self.say(announce_line(random, &self.clock, speaker, time));
+                let received = announced(random, &self.clock, speaker, time);
+                if self.in_bursts {
+                    burst.push(heard(&mut self.clock, received));
+                } else {
+                    self.say(line_of_take(random, &received));
+                }
+            }
+            if self.in_bursts {
+                self.lines.push(line_of_burst(random, &burst));
             }
         }
     }
@@ -140,13 +153,14 @@ impl Scene {
         }
     }
 
-    /// Asks a few questions.
+    /// Asks a few questions, of both kinds where bursts are asked for.
     fn ask(&mut self, random: &mut Random, asked: &[Call]) {
+        let asks = |call| asked.contains(&call) || asked.contains(&Call::Burst);
         for _ in 0..4 {
-            if asked.contains(&Call::Best) {
+            if asks(Call::Best) {
                 self.say(best_line(random, &self.clock));
             }
-            if asked.contains(&Call::All) {
+            if asks(Call::All) {
                 self.say(all_line(random, &self.clock));
             }
         }
@@ -302,8 +316,8 @@ fn later(random: &mut Random, time: u64, most: u64) -> u64 {
     time.saturating_add(random.below(most + 1))
 }
 
-/// The line that brings a sender's next Announce to its port.
-fn announce_line(random: &mut Random, clock: &Clock, speaker: &Candidate, time: u64) -> Vec<u8> {
+/// A sender's next Announce as its port receives it.
+pub fn announced(random: &mut Random, clock: &Clock, speaker: &Candidate, time: u64) -> Received {
     let known = senders_of(clock, speaker.port)
         .held()
         .find(|(_, record)| record.announced.sender == speaker.sender);
@@ -331,5 +345,9 @@ fn announce_line(random: &mut Random, clock: &Clock, speaker: &Candidate, time: 
     if random.chance(1, 30) {
         draft.weather(random, clock.magic);
     }
-    line_of_take(random, speaker.port, time, &draft)
+    Received {
+        port: speaker.port,
+        time,
+        octets: draft.octets,
+    }
 }

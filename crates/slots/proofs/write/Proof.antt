@@ -14,14 +14,13 @@ slice-write-s-6 c = simp length-set (omega arith)
 
 returns : tie.Need-returns
 returns c =
-    let l = c .before .before .before .before .before .before in
-    rw (c .before .pack-id .ensures, c .pack-grade .ensures) (six (l .args .s .now) _ _ _ _ _ _ (l .pre))
+    let l = c .before .before .before .before in
+    rw (c .pack-id .ensures, l .pre .1 .0, l .pre .1 .1) (six (l .args .s .now) _ _ _ _ _ _ (l .pre .0))
 
 pub write-spec : {M : Type 1} → statement M
 write-spec =
     tie.close
     (tie.spec
-    (λ c κs. search needs)
     (λ c κs. search needs)
     (λ c. search needs)
     (λ c. search needs)

@@ -4,6 +4,7 @@ use Prim.Native.Nat.{ℕ}
 use Rattle.slots.specs.Words.{splice}
 use Rattle.slots.proofs.Laws.{back}
 use Rattle.ports.proofs.Laws.{admitted-port, lent-own, take-refused, take-on}
+use Rattle.ports.proofs.Kept.{admitted-stands}
 use borrow.Author.Needs.{needs}
 use Rattle.ports.proofs.intake.take_in.Statement.{statement}
 use Rattle.ports.proofs.intake.take_in.Tie as tie
@@ -14,6 +15,14 @@ start-requires c κs =
     let d = a .before .before in
     let g = d .before .before .before .args in
     admitted-port (g .set) (g .port) (g .s .now) _ (sym (d .admit .ensures) ∙ a .admitted2 .given .1)
+
+enter-requires : tie.Need-enter-requires
+enter-requires c κs =
+    let a = c .before .before .before in
+    let d = a .before .before in
+    let g = d .before .before .before .args in
+    let w = admitted-stands (g .set) (g .port) (g .s .now) _ (sym (d .admit .ensures) ∙ a .admitted2 .given .1) in
+    ((search needs, w .0), w .1)
 
 returns : tie.Need-returns
 returns c =
@@ -30,9 +39,9 @@ returns-2 c =
     let g = d .before .before .before .args in
     let b = s .start .result in
     let w =
-    take-on (g .set) (g .words .now) (g .port) (g .t) (g .s .now) _ _ _ (k .take .last .0) _ (d .admit .ensures) (a .admitted2 .given .1)
-    (lent-own (g .words .now) (g .port) b (s .start .ensures .0)) (k .take .ensures) in
-    (w .0, back (g .words .now) (k .take .last .0) b 98 ∙ ap (λ (n : ℕ). splice (g .words .now) n 98 (k .take .last .0)) (s .start .ensures .0) ∙ w .1)
+    take-on (g .set) (g .words .now) (g .port) (g .t) (g .s .now) _ _ _ (k .enter .last .0) _ (d .admit .ensures) (a .admitted2 .given .1)
+    (lent-own (g .words .now) (g .port) b (s .start .ensures .0)) (k .enter .ensures) in
+    (w .0, back (g .words .now) (k .enter .last .0) b 98 ∙ ap (λ (n : ℕ). splice (g .words .now) n 98 (k .enter .last .0)) (s .start .ensures .0) ∙ w .1)
 
 pub take-in-spec : {M : Type 1} → statement M
 take-in-spec =
@@ -47,7 +56,7 @@ take-in-spec =
     (λ c. search needs)
     (λ c. search needs)
     (λ c. search needs)
-    (λ c κs. search needs)
+    enter-requires
     returns
     (λ c. search needs)
     returns-2)
