@@ -2,8 +2,8 @@
 // words each (specs/Words has the layout). The fields fill their words, so any words are a port, and words of zero
 // are a port that has heard nothing.
 //
-// Taking an Announce refuses 11 (its time lies before the last accepted one), 12 and 13; asking refuses 11. Where one refuses, no word
-// changes; an Announce that is taken writes one record and the time. Reading messages, and which port's words these
+// `plan` says what an Announce is to do, or refuses it with 11 (its time lies before the last accepted one), 12 or 13, and changes no word;
+// `put` carries a plan out and writes one record and the time. Asking refuses 11. Reading messages, and which port's words these
 // are, is left to those above.
 ghost use mathlib.Core.Path.{_≡_};
 ghost use Prim.Native.Nat.{_-_, _<_};
