@@ -25,28 +25,15 @@ Inv-loop run from to i₀ i = (from ≤ i) × (i ≤ to) × ((k : ℕ) → from 
 abbrev μ-loop : tie.MeasureT-loop
 μ-loop run from to i₀ i = to - i
 
--- src/places.rt:266:5
 loop-holds : tie.Need-loop-holds Inv-loop μ-loop
 loop-holds c = (omega arith, c .pre .0, λ k h j. absurd (omega arith))
 
--- src/places.rt:267:42
--- src/places.rt:267:42
--- src/places.rt:267:42
--- src/places.rt:267:27
--- src/places.rt:267:13
--- src/places.rt:268:13
 returns : tie.Need-returns Inv-loop μ-loop
 returns c = λ e. clash e refl
 
--- src/places.rt:270:35
--- src/places.rt:270:35
--- src/places.rt:270:13
--- src/places.rt:271:13
 returns-2 : tie.Need-returns-2 Inv-loop μ-loop
 returns-2 c = λ e. clash e refl
 
--- src/places.rt:273:9
--- src/places.rt:266:5
 -- the candidate of a turn that goes on fits
 fits-here : (c : tie.Else2 Inv-loop μ-loop)
     → let l = c .before .before .before .before .before .before .before .before in Fit (l .before .args .run .now) (l .loop .i)
@@ -62,7 +49,6 @@ fits-here c =
       fits = sym (o .one-fits .ensures) ∙ not-false _ (c .if2 .left);
     }
 
--- src/places.rt:266:5
 loop-again : tie.Need-loop-again Inv-loop μ-loop
 loop-again c =
     let t = c .before .before .before .before .before .before .before in
@@ -76,7 +62,6 @@ loop-again c =
           (λ e. let n = eqb-false k (l .loop .i) e in l .loop .inv .2 k h (omega arith)),
     )
 
--- src/places.rt:261:1
 returns-3 : tie.Need-returns-3 Inv-loop μ-loop
 returns-3 c = let l = c .before in λ e k h j. l .loop .inv .2 k h (omega (arith, c .loop-test .left))
 

@@ -23,20 +23,12 @@ Inv-loop run n whole₀ i₀ whole i = (i ≤ n) × (n ≡ length run) × (soFar
 abbrev μ-loop : tie.MeasureT-loop
 μ-loop run n whole₀ i₀ whole i = n - i
 
--- src/places.rt:120:9
 returns : tie.Need-returns Inv-loop μ-loop
 returns c = check-many (c .before .args .run .now) (c .if1 .taken)
 
--- src/places.rt:124:5
 loop-holds : tie.Need-loop-holds Inv-loop μ-loop
 loop-holds c = (omega arith, refl, check-start (c .before .args .run .now) (c .if1 .left))
 
--- src/places.rt:125:42
--- src/places.rt:125:42
--- src/places.rt:125:42
--- src/places.rt:125:27
--- src/places.rt:125:13
--- src/places.rt:126:13
 returns-2 : tie.Need-returns-2 Inv-loop μ-loop
 returns-2 c =
     let p = c .before in
@@ -44,12 +36,6 @@ returns-2 c =
     let l = t .before in
     check-port (l .before .before .args .run .now) (l .loop .whole) (l .loop .i) (omega arith) (sym (p .is-port .ensures ∙ ap isPort (p .before .port-of .ensures)) ∙ not-true _ (c .if2 .taken)) ∙ l .loop .inv .2
 
--- src/places.rt:128:47
--- src/places.rt:128:47
--- src/places.rt:128:25
--- src/places.rt:129:9
--- src/places.rt:124:5
--- src/places.rt:124:5
 loop-again : tie.Need-loop-again Inv-loop μ-loop
 loop-again c =
     let e = c .before .before in
@@ -64,13 +50,11 @@ loop-again c =
           ∙ l .loop .inv .2,
     )
 
--- src/places.rt:132:9
 returns-3 : tie.Need-returns-3 Inv-loop μ-loop
 returns-3 c =
     let l = c .before .before in
     check-fits (l .before .before .args .run .now) (l .loop .whole) (l .loop .i) (omega arith) (omega arith) (c .if3 .taken) ∙ l .loop .inv .2
 
--- src/places.rt:115:1
 returns-4 : tie.Need-returns-4 Inv-loop μ-loop
 returns-4 c =
     let l = c .before .before in

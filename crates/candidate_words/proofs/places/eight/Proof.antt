@@ -8,15 +8,6 @@ use Rattle.candidate_words.proofs.places.eight.Reads as reads
 use Rattle.candidate_words.proofs.places.eight.Lts as lts
 use Rattle.candidate_words.proofs.places.row.Reads as row-reads
 
--- src/places.rt:249:9
--- src/places.rt:250:9
--- src/places.rt:251:9
--- src/places.rt:252:9
--- src/places.rt:253:9
--- src/places.rt:254:9
--- src/places.rt:255:9
--- src/places.rt:256:9
--- src/places.rt:245:1
 returns : tie.Need-returns
 unfolding eightOf
 returns c =

@@ -29,20 +29,15 @@ Inv-loop run from to q₀ i₀ q i =
 abbrev μ-loop : tie.MeasureT-loop
 μ-loop run from to q₀ i₀ q i = to - i
 
--- src/places.rt:105:5
 loop-holds : tie.Need-loop-holds Inv-loop μ-loop
 loop-holds c = (omega arith, c .pre .1, c .pre .0, refl)
 
--- src/places.rt:106:13
 left-out-requires : tie.Need-left-out-requires Inv-loop μ-loop
 left-out-requires c κs = let l = c .before in (l .loop .inv .2, l .before .pre .3 (l .loop .i) (l .loop .inv .0) (c .loop-test .taken))
 
--- src/places.rt:107:13
 sink-requires : tie.Need-sink-requires Inv-loop μ-loop
 sink-requires c κs = let t = c .before .before in let l = t .before in (l .loop .inv .2, l .before .pre .3 (l .loop .i) (l .loop .inv .0) (t .loop-test .taken))
 
--- src/places.rt:109:9
--- src/places.rt:105:5
 -- a turn inserts one candidate
 turned : (c : tie.Joined1 Inv-loop μ-loop)
     → let l = c .before .before .before in
@@ -60,7 +55,6 @@ turned c =
     (w .1 .ensures .0, w .1 .ensures .1 ∙ ap (λ (b : Bool). pick b r (sinkOf r x)) (sym (told ∙ not-true _ (w .0 .taken)))))
     (λ w. rw (w .1) (l .loop .inv .2, ap (λ (b : Bool). pick b r (sinkOf r x)) (sym (told ∙ not-false _ (w .0 .left)))))
 
--- src/places.rt:105:5
 loop-again : tie.Need-loop-again Inv-loop μ-loop
 loop-again c =
     let t = c .before .before in
@@ -76,7 +70,6 @@ loop-again c =
           ∙ l .loop .inv .3,
     )
 
--- src/places.rt:98:1
 returns : tie.Need-returns Inv-loop μ-loop
 returns c =
     let l = c .before in

@@ -17,27 +17,19 @@ use Rattle.candidate_words.proofs.places.left_out.Reads as reads
 use Rattle.candidate_words.proofs.places.left_out.Lts as lts
 use Rattle.candidate_words.proofs.places.lower.Reads as lower-reads
 
--- src/places.rt:39:9
 returns : tie.Need-returns
 returns c = simp (ne-eqb _ _ (c .if1 .taken))
 
--- src/places.rt:41:16
--- src/places.rt:42:12
--- src/places.rt:42:12
 -- the last place is in the run
 last-in : (c : tie.Else1) → Fit (c .before .args .run .now) (getD (c .before .args .t2 .at) 3 0)
 last-in c = c .before .pre .0 .each 3 (omega (arith, c .if1 .left))
 
--- src/places.rt:42:21
 mul-lower-2 : tie.Need-mul-lower-2
 mul-lower-2 c = let h = last-in (c .before .before) .inside in omega arith
 
--- src/places.rt:42:21
 shared-slice-element-lower-2 : tie.Need-shared-slice-element-lower-2
 shared-slice-element-lower-2 c = last-in (c .before .before) .inside
 
--- src/places.rt:42:6
--- src/places.rt:34:1
 returns-2 : tie.Need-returns-2
 returns-2 c =
     let e = c .before .before .before .before in

@@ -18,35 +18,21 @@ Inv-loop a b i₀ i = (i ≤ 11) × (lex (drop i (wordsAt a 0)) (drop i (wordsAt
 abbrev μ-loop : tie.MeasureT-loop
 μ-loop a b i₀ i = 11 - i
 
--- src/places.rt:24:5
 loop-holds : tie.Need-loop-holds Inv-loop μ-loop
 unfolding lowerOf
 loop-holds c = (omega arith, refl)
 
--- src/places.rt:25:12
--- src/places.rt:25:12
--- src/places.rt:25:20
--- src/places.rt:25:20
--- src/places.rt:26:20
--- src/places.rt:26:20
--- src/places.rt:26:27
--- src/places.rt:26:27
--- src/places.rt:26:13
 returns : tie.Need-returns Inv-loop μ-loop
 returns c =
     let t = c .before .before in
     let l = t .before .before .before .before in
     lex-here (l .before .args .a .now) (l .before .args .b .now) (l .loop .i) (omega arith) (t .if1 .taken) ∙ l .loop .inv .1
 
--- src/places.rt:28:9
--- src/places.rt:24:5
--- src/places.rt:24:5
 loop-again : tie.Need-loop-again Inv-loop μ-loop
 loop-again c =
     let l = c .before .before .before .before in
     (omega arith, lex-on (l .before .args .a .now) (l .before .args .b .now) (l .loop .i) (omega arith) (c .if1 .left) ∙ l .loop .inv .1)
 
--- src/places.rt:20:1
 returns-2 : tie.Need-returns-2 Inv-loop μ-loop
 returns-2 c =
     let l = c .before in

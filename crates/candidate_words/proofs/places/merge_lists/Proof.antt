@@ -19,21 +19,11 @@ use Rattle.candidate_words.proofs.fits.ranking_fitted.Reads as ranking-
 use Rattle.candidate_words.proofs.places.merge_quickly.Reads as merge-quickly-reads
 use Rattle.rank.proofs.merge.Reads as merge-reads
 
--- src/places.rt:328:8
--- src/places.rt:329:9
 returns : tie.Need-returns
 returns c =
     let h = c .before .merge-quickly .ensures in
     rw (h .outcome (c .if1 .taken)) (refl, h .words (c .if1 .taken))
 
--- src/places.rt:331:25
--- src/places.rt:331:58
--- src/places.rt:331:9
--- src/places.rt:332:9
--- src/places.rt:333:9
--- src/places.rt:334:9
--- src/places.rt:335:5
--- src/places.rt:324:1
 returns-2 : tie.Need-returns-2
 returns-2 c =
     let r = c .before .before in

@@ -13,17 +13,9 @@ use Rattle.candidate_words.proofs.places.merge_quickly.Lts as lts
 use Rattle.candidate_words.proofs.places.eight.Reads as eight-reads
 use Rattle.candidate_words.proofs.places.merge_run.Reads as merge-run-reads
 
--- src/places.rt:316:13
--- src/places.rt:316:26
--- src/places.rt:317:9
 returns : tie.Need-returns
 returns c = not-merged _ _ _
 
--- src/places.rt:319:15
--- src/places.rt:320:15
--- src/places.rt:320:21
--- src/places.rt:320:36
--- src/places.rt:320:5
 merge-run-requires : tie.Need-merge-run-requires
 merge-run-requires c κs =
     let g = c .before .before .before .before in
@@ -31,7 +23,6 @@ merge-run-requires c κs =
     let f = few-both _ _ (g .before .if1 .left) in
     (ap length (g .eight .ensures) ∙ length-eight (s .args .a .now) (s .args .b .now), f .0, f .1)
 
--- src/places.rt:313:1
 returns-2 : tie.Need-returns-2
 returns-2 c =
     let g = c .before .before .before .before .before in

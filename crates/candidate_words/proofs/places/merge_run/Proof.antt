@@ -25,14 +25,9 @@ use Rattle.candidate_words.proofs.places.none.Reads as none-reads
 use Rattle.candidate_words.proofs.places.put.Reads as put-reads
 use Rattle.candidate_words.proofs.places.unmoved.Reads as unmoved-reads
 
--- src/places.rt:297:9
--- src/places.rt:298:34
--- src/places.rt:298:9
--- src/places.rt:300:9
 returns : tie.Need-returns
 returns c = not-tried _ _ _ _
 
--- src/places.rt:302:23
 -- each candidate of both parts fits
 fits : (c : tie.Else1)
     → let s = c .before .before .before in
@@ -41,7 +36,6 @@ fits c =
     let b = both _ _ (not-false _ (c .if1 .left)) in
     (c .before .before .all-fit .ensures (b .0), c .before .all-fit2 .ensures (b .1))
 
--- src/places.rt:302:9
 fill-requires : tie.Need-fill-requires
 fill-requires c κs =
     let s = c .before .before .before .before in (
@@ -51,9 +45,6 @@ fill-requires c κs =
       fits (c .before) .0,
     )
 
--- src/places.rt:303:23
--- src/places.rt:303:34
--- src/places.rt:303:9
 fill-requires-2 : tie.Need-fill-requires-2
 fill-requires-2 c κs =
     let e = c .before .before .before in
@@ -64,14 +55,9 @@ fill-requires-2 c κs =
       fits e .1,
     )
 
--- src/places.rt:304:10
--- src/places.rt:304:29
--- src/places.rt:305:9
 returns-2 : tie.Need-returns-2
 returns-2 c = not-tried _ _ _ _
 
--- src/places.rt:307:29
--- src/places.rt:307:9
 fill-requires-3 : tie.Need-fill-requires-3
 fill-requires-3 c κs =
     let f = c .before .before .before .before .before in
@@ -79,8 +65,6 @@ fill-requires-3 c κs =
     let s = e .before .before .before in
     (f .fill .ensures .0, omega arith, omega (arith, s .pre .0, s .pre .2), fits e .1)
 
--- src/places.rt:308:5
--- src/places.rt:293:1
 returns-3 : tie.Need-returns-3
 returns-3 c =
     let r = c .before .before in

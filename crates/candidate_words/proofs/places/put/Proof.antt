@@ -11,55 +11,6 @@ use Rattle.candidate_words.proofs.places.put.Reads as reads
 use Rattle.candidate_words.proofs.places.put.Lts as lts
 use Rattle.candidate_words.proofs.places.words_at.Reads as words-at-reads
 
--- src/places.rt:154:13
--- src/places.rt:155:13
--- src/places.rt:156:13
--- src/places.rt:157:13
--- src/places.rt:160:9
--- src/places.rt:161:9
--- src/places.rt:162:9
--- src/places.rt:163:9
--- src/places.rt:164:9
--- src/places.rt:165:9
--- src/places.rt:166:9
--- src/places.rt:167:9
--- src/places.rt:168:9
--- src/places.rt:169:9
--- src/places.rt:170:9
--- src/places.rt:171:9
--- src/places.rt:172:9
--- src/places.rt:173:9
--- src/places.rt:174:9
--- src/places.rt:175:9
--- src/places.rt:176:9
--- src/places.rt:177:9
--- src/places.rt:178:9
--- src/places.rt:179:9
--- src/places.rt:180:9
--- src/places.rt:181:9
--- src/places.rt:182:9
--- src/places.rt:183:9
--- src/places.rt:184:9
--- src/places.rt:185:9
--- src/places.rt:186:9
--- src/places.rt:187:9
--- src/places.rt:188:9
--- src/places.rt:189:9
--- src/places.rt:190:9
--- src/places.rt:191:9
--- src/places.rt:192:9
--- src/places.rt:193:9
--- src/places.rt:194:9
--- src/places.rt:195:9
--- src/places.rt:196:9
--- src/places.rt:197:9
--- src/places.rt:198:9
--- src/places.rt:199:9
--- src/places.rt:200:9
--- src/places.rt:201:9
--- src/places.rt:202:9
--- src/places.rt:203:9
--- src/places.rt:150:1
 returns : tie.Need-returns
 returns c =
     let d = c .before in

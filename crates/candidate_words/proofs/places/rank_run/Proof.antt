@@ -19,16 +19,10 @@ use Rattle.candidate_words.proofs.places.none.Reads as none-reads
 use Rattle.candidate_words.proofs.places.put.Reads as put-reads
 use Rattle.refusal.proofs.number.Reads as number-reads
 
--- src/places.rt:212:9
--- src/places.rt:214:26
--- src/places.rt:214:32
--- src/places.rt:216:31
--- src/places.rt:216:31
 -- nothing is refused
 whole : (c : tie.After-enum-told) → Passed (c .before .before .before .args .run .now)
 whole c = let k = c .before .before in passed (k .before .args .run .now) (sym (k .checked .ensures) ∙ c .enum-told .given .1)
 
--- src/places.rt:216:17
 fill-requires : tie.Need-fill-requires
 fill-requires c κs =
     let t = c .before in
@@ -39,14 +33,11 @@ fill-requires c κs =
       λ i h k. fit-each run (whole t) i k,
     )
 
--- src/places.rt:217:13
--- src/places.rt:208:1
 returns : tie.Need-returns
 returns c =
     let k = c .before .before .before .before in
     rw (sym (k .checked .ensures) ∙ c .before .before .x .given .1) (c .answer .ensures, refl)
 
--- src/places.rt:208:1
 returns-2 : tie.Need-returns-2
 returns-2 c =
     let f = c .before .before in

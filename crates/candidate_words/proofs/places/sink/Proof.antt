@@ -88,10 +88,6 @@ port-here c =
     ap (λ (x : Candidate). x .port) (List·getD-map (candidateOf run) (l .loop .at) (l .loop .i) 0)
     ∙ port-word run (getD (l .loop .at) (l .loop .i) 0) (here-in c)
 
--- src/places.rt:52:16
--- src/places.rt:52:16
--- src/places.rt:52:16
--- src/places.rt:57:5
 loop-holds : tie.Need-loop-holds Inv-loop μ-loop
 loop-holds c =
     let s = c .before .before in (
@@ -106,31 +102,18 @@ loop-holds c =
       },
     )
 
--- src/places.rt:58:17
--- src/places.rt:58:17
--- src/places.rt:59:18
--- src/places.rt:59:18
--- src/places.rt:59:27
 mul-lower-2 : tie.Need-mul-lower-2 Inv-loop μ-loop
 mul-lower-2 c = let h = here-in (c .before) .inside in omega arith
 
--- src/places.rt:59:27
 shared-slice-element-lower-2 : tie.Need-shared-slice-element-lower-2 Inv-loop μ-loop
 shared-slice-element-lower-2 c = here-in (c .before) .inside
 
--- src/places.rt:59:12
--- src/places.rt:60:13
--- src/places.rt:60:13
--- src/places.rt:63:12
 mul-if2 : tie.Need-mul-if2 Inv-loop μ-loop
 mul-if2 c = let h = here-in (c .before .before .before .before) .inside in omega arith
 
--- src/places.rt:63:12
 index-1-if2 : tie.Need-index-1-if2 Inv-loop μ-loop
 index-1-if2 c = here-in (c .before .before .before .before) .inside
 
--- src/places.rt:63:12
--- src/places.rt:64:13
 returns : tie.Need-returns Inv-loop μ-loop
 returns c =
     let j = c .before .before in
@@ -144,9 +127,6 @@ returns c =
           ∙ sinks run (s .args .p) (s .args .c) (s .pre .0) (s .pre .1),
     )
 
--- src/places.rt:66:9
--- src/places.rt:57:5
--- src/places.rt:57:5
 loop-again : tie.Need-loop-again Inv-loop μ-loop
 loop-again c =
     let j = c .before .before in
@@ -159,10 +139,6 @@ loop-again c =
           (down-on _ _ _ _ _ _ _ (l .loop .inv .2) (candidateOf run 0) (t .loop-test .taken) (ne-eqb _ _ (λ e. c .if2 .left (sym (port-here t) ∙ e)))),
     )
 
--- src/places.rt:69:9
--- src/places.rt:69:9
--- src/places.rt:70:30
--- src/places.rt:70:9
 returns-2 : tie.Need-returns-2 Inv-loop μ-loop
 returns-2 c =
     let l = c .before .before in
@@ -180,7 +156,6 @@ returns-2 c =
           ∙ sinks run (s .args .p) (s .args .c) (s .pre .0) (s .pre .1),
     )
 
--- src/places.rt:47:1
 returns-3 : tie.Need-returns-3 Inv-loop μ-loop
 returns-3 c =
     let l = c .before .before in

@@ -7,14 +7,6 @@ use Rattle.candidate_words.proofs.places.unmoved.Tie as tie
 use Rattle.candidate_words.proofs.places.unmoved.Reads as reads
 use Rattle.candidate_words.proofs.places.unmoved.Lts as lts
 
--- src/places.rt:285:24
--- src/places.rt:286:24
--- src/places.rt:286:33
--- src/places.rt:287:24
--- src/places.rt:287:33
--- src/places.rt:288:24
--- src/places.rt:288:33
--- src/places.rt:279:1
 returns : tie.Need-returns
 unfolding unmovedOf
 returns c = refl

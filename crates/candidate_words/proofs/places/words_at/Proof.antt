@@ -8,22 +8,16 @@ use Rattle.candidate_words.proofs.places.words_at.Tie as tie
 use Rattle.candidate_words.proofs.places.words_at.Reads as reads
 use Rattle.candidate_words.proofs.places.words_at.Lts as lts
 
--- src/places.rt:143:17
--- src/places.rt:143:17
--- src/places.rt:144:16
 mul-result : tie.Need-mul-result
 mul-result c = let t = c .before in let h = t .before .pre .0 .each (t .before .args .k) (t .if1 .taken) .inside in omega arith
 
--- src/places.rt:144:16
 shared-slice-copy-out-result : tie.Need-shared-slice-copy-out-result
 shared-slice-copy-out-result c = let t = c .before in t .before .pre .0 .each (t .before .args .k) (t .if1 .taken) .inside
 
--- src/places.rt:144:9
 returns : tie.Need-returns
 unfolding rowOf
 returns c = simp (lt-ltb _ _ (c .before .before .if1 .taken))
 
--- src/places.rt:138:1
 returns-2 : tie.Need-returns-2
 unfolding rowOf
 returns-2 c = simp (le-ltb _ _ (c .if1 .left))
