@@ -24,6 +24,12 @@ static inline uint64_t window(const struct port *p) { return (uint64_t)500000000
 /* How long ago something was; 0 for what is yet to come. */
 static inline uint64_t age(uint64_t t, uint64_t then) { return t > then ? t - then : 0; }
 
+/* Heard twice within the window, and not distant by what was said last. */
+static inline int is_qualified(const struct record *r, uint64_t w, uint64_t t)
+{
+    return r->receipts > 1 && age(t, r->older) <= w && (r->quality & 65535) < DZ_STEPS_DISTANT;
+}
+
 static inline int is_before(const struct record *a, const struct record *b)
 {
     if (a->quality >> 16 != b->quality >> 16) return a->quality < b->quality;
@@ -40,7 +46,7 @@ static inline const struct record *best_of(const struct port *p, uint64_t t)
     const struct record *best = NULL;
     uint64_t w = window(p);
     for (const struct record *r = p->slots; r < p->slots + DZ_SLOTS; r++)
-        if (r->receipts > 1 && age(t, r->older) <= w && (!best || is_before(r, best))) best = r;
+        if (is_qualified(r, w, t) && (!best || is_before(r, best))) best = r;
     return best;
 }
 

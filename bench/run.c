@@ -221,6 +221,7 @@ static dz_answer take_burst(struct lent *m, any_call *f, uint64_t i)
     return CALL(take_burst, m->ports, m->ring[0], sizeof m->ring, m->burst, BURST, 0, own_clock, magic);
 }
 
+static dz_answer candidate(struct lent *m, any_call *f, uint64_t i) { return CALL(candidate, m->ports, PORT, i % DZ_SLOTS, 2 * second, m->found); }
 static dz_answer best(struct lent *m, any_call *f, uint64_t i) { return (void)i, CALL(best, m->ports, PORT, 2 * second, m->found); }
 static dz_answer compare(struct lent *m, any_call *f, uint64_t i) { return (void)i, CALL(compare, m->set, m->rival, &m->answer); }
 static dz_answer merge(struct lent *m, any_call *f, uint64_t i) { return (void)i, CALL(merge, m->a, m->b, m->list); }
@@ -256,6 +257,7 @@ static const struct row {
     {"full", BOTH(take), full_port, take_new, DZ_REFUSED_FULL},
     {"flooded", BOTH(take), flooded_port, take_new, DZ_REFUSED_FULL},
     {"write", BOTH(write), plain, write, DZ_OK},
+    {"candidate", BOTH(candidate), full_port, candidate, DZ_OK},
     {"best", BOTH(best), full_port, best, DZ_OK},
     {"compare-priority1", BOTH(compare), by_priority1, compare, DZ_OK},
     {"compare-identity", BOTH(compare), by_identity, compare, DZ_OK},

@@ -73,19 +73,32 @@ dz_answer c_take_burst(uint64_t *ports, const uint8_t *s, size_t n, uint64_t (*b
     return DZ_OK;
 }
 
-dz_answer c_best(const uint64_t *ports, uint64_t port, uint64_t t, uint64_t *found)
+/* A candidate that was looked for, or that there is none. */
+static inline dz_answer put_found(uint64_t *found, const struct record *r, uint64_t port)
 {
-    const struct port *p;
-    const struct record *best;
-    if (!is_port(port)) return DZ_REFUSED_PORT;
-    p = (const struct port *)ports + port - 1;
-    if (t < p->last) return DZ_REFUSED_BACKWARD;
-    best = best_of(p, t);
-    if (best) {
+    if (r) {
         found[DZ_FOUND] = 1;
-        put_candidate(found + DZ_FOUND_CANDIDATE, best, port);
+        put_candidate(found + DZ_FOUND_CANDIDATE, r, port);
     } else {
         for (int i = 0; i < DZ_FOUND_WORDS; i++) found[i] = 0;
     }
     return DZ_OK;
+}
+
+dz_answer c_candidate(const uint64_t *ports, uint64_t port, size_t slot, uint64_t t, uint64_t *found)
+{
+    const struct port *p;
+    if (!is_port(port)) return DZ_REFUSED_PORT;
+    p = (const struct port *)ports + port - 1;
+    if (t < p->last) return DZ_REFUSED_BACKWARD;
+    return put_found(found, slot < DZ_SLOTS && is_qualified(p->slots + slot, window(p), t) ? p->slots + slot : NULL, port);
+}
+
+dz_answer c_best(const uint64_t *ports, uint64_t port, uint64_t t, uint64_t *found)
+{
+    const struct port *p;
+    if (!is_port(port)) return DZ_REFUSED_PORT;
+    p = (const struct port *)ports + port - 1;
+    if (t < p->last) return DZ_REFUSED_BACKWARD;
+    return put_found(found, best_of(p, t), port);
 }

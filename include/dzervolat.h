@@ -49,7 +49,7 @@ extern "C" {
 /* Rises whenever a call, a constant, a place in words or the meaning of one changes; within one number all of it stays. A host compiled with one
    number must not run with a library of another: dz_version() == DZ_VERSION is worth a test at start. State that was kept from a library of another
    number is no longer state. */
-#define DZ_VERSION 3
+#define DZ_VERSION 4
 
 /* What every call returns: 0, or the number of its refusal in the low eight bits and, of DZ_REFUSED_TLV and DZ_REFUSED_WRBAD, a place above them. It is
    64 bits wide on every processor. */
@@ -358,7 +358,12 @@ enum dz_burst {
        } */
 dz_answer dz_take_burst(uint64_t ports[DZ_PORTS_WORDS], const uint8_t *octets, size_t length, uint64_t burst[][DZ_BURST_WORDS], size_t messages, uint8_t domain, uint64_t clock, uint16_t magic);
 
-/* The candidate in a slot of a port at a time: DZ_SLOTS calls give a port's candidates. A slot past them has none. Refuses 8, then 11. */
+/* A sender that announces a grandmaster so many steps away, or more, is no candidate: what it says may only be going round in a loop (IEEE 1588-2008,
+   9.3.2.5). It is taken and keeps its record as any other, and is a candidate again with its first Announce of fewer steps. */
+#define DZ_STEPS_DISTANT 255
+
+/* The candidate in a slot of a port at a time: its record, where the sender's two latest Announces were taken within four intervals and the last one is
+   of fewer than DZ_STEPS_DISTANT steps. DZ_SLOTS calls give a port's candidates. A slot past them has none. Refuses 8, then 11. */
 dz_answer dz_candidate(const uint64_t ports[DZ_PORTS_WORDS], uint64_t port, size_t slot, uint64_t time, uint64_t found[DZ_FOUND_WORDS]);
 
 /* The best of a port's candidates at a time, first in rank order. Refuses 8, then 11. */

@@ -592,7 +592,7 @@ static void any_message(uint64_t *m, uint64_t type)
         m[DZ_M_UTC] = cut(any(), SIGNED | 16);
         for (int i = DZ_M_PRIORITY1; i <= DZ_M_PRIORITY2; i++) m[i] = below(3);
         m[DZ_M_GRANDMASTER] = 1 + below(5);
-        m[DZ_M_STEPS] = below(3);
+        m[DZ_M_STEPS] = one_in(8) ? DZ_STEPS_DISTANT - 2 + below(4) : one_in(32) ? below(65536) : below(3);
         m[DZ_M_SOURCE] = below(256);
         if (one_in(2)) { /* a sender that says the same on each port that hears it */
             for (int i = DZ_M_PRIORITY1; i <= DZ_M_PRIORITY2; i++) m[i] = 0;
@@ -882,7 +882,7 @@ static void try_slots(void)
     for (int i = 0; i < DZ_RECORD_WORDS; i++) expect(r[DZ_R_HELD] || !r[i], "words of a record that is none");
     if (candidate(port, slot, t) != DZ_OK) return;
     for (int i = 0; i < DZ_FOUND_WORDS; i++) expect(words(FOUND)[DZ_FOUND] || !words(FOUND)[i], "words of a candidate that is none");
-    expect(words(FOUND)[DZ_FOUND] == (r[DZ_R_RECEIPTS] > 1 && is_recent(port, t, r[DZ_R_OLDER])), "a candidate without a qualified record, or none with one");
+    expect(words(FOUND)[DZ_FOUND] == (r[DZ_R_RECEIPTS] > 1 && is_recent(port, t, r[DZ_R_OLDER]) && r[DZ_R_STEPS] < DZ_STEPS_DISTANT), "a candidate without a qualified record, or none with one");
     if (!words(FOUND)[DZ_FOUND]) return;
     expect(c[DZ_C_PORT] == port && c[DZ_C_SENDER_CLOCK] == r[DZ_R_SENDER_CLOCK] && c[DZ_C_SENDER_PORT] == r[DZ_R_SENDER_PORT], "a candidate of another port or sender");
     expect(same_words(c + DZ_C_PRIORITY1, r + DZ_R_PRIORITY1, DZ_C_STEPS - DZ_C_PRIORITY1 + 1) && c[DZ_C_WRFLAGS] == r[DZ_R_WRFLAGS], "a candidate of other data than its record");

@@ -61,15 +61,25 @@ fn silent(r: Record, window: u64, t: u64) {
     }
 }
 
-// Why a clock that is still heard is not.
+// Why a clock that is still heard is not: it says itself how far away its grandmaster is.
+fn distant(steps: u16) {
+    page::tell(
+        b": %d steps from its grandmaster, and 254 are the most that count\n",
+        &[steps as u64],
+    );
+}
+
+// Or another is better.
 fn beaten(new: Grandmaster, old: Grandmaster) {
     page::tell(b": worse by %f\n", &[equal(new, old)]);
 }
 
 // Why the sender of a record is not.
 fn lost(r: Record, window: u64, t: u64, new: Grandmaster) {
-    if senders::is_qualified(r, window, t) {
-        let notice = r.notice;
+    let notice = r.notice;
+    if senders::is_distant(notice) {
+        distant(notice.steps);
+    } else if senders::is_qualified(r, window, t) {
         beaten(new, notice.grandmaster);
     } else {
         silent(r, window, t);

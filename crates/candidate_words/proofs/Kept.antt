@@ -1,13 +1,14 @@
 -- Words that a call gives are read back as what they were packed from: a candidate, a ranked list, and a best, whose numbers fit their fields. And words
 -- that fit are packed again as they stood.
-use Prim.Native.Nat.{ℕ, _+_, _%_, _<_}
+use Prim.Native.Nat.{ℕ, _+_, _%_, _≤_, _<_}
 use mathlib.Core.Path.{_≡_, ap}
 use mathlib.Core.Bool.{true}
 use mathlib.Core.List.{List, [], _∷_, _++_}
 use lib.Dec.{ltb}
 use lib.ListN.{getD}
 use native.Mathlib.Omega.{arith}
-use borrow.Author.Tests.{lt-ltb, ltb-true}
+use borrow.Author.Tests.{ltb-true, le-leb}
+use Rattle.refusal.specs.Limits.{portCount}
 use Rattle.words.specs.Words.{portOf}
 use Rattle.rank.specs.declared.Candidate.{Candidate}
 use Rattle.rank.specs.declared.Ranked.{Ranked}
@@ -26,7 +27,7 @@ pub record Fits (c : Candidate) : Type 0 where
   pub priority2 : c .grandmaster .priority2 < 256
   pub steps : c .steps < 65536
   pub sender : c .sender .port < 65536
-  pub port : c .port < 256
+  pub port : c .port ≤ portCount
   pub wrflags : c .wrflags < 65536
 
 octet : (n : ℕ) → n < 256 → n % 256 ≡ n
@@ -35,8 +36,8 @@ octet n h = omega arith
 two : (n : ℕ) → n < 65536 → n % 65536 ≡ n
 two n h = omega arith
 
-whole : (n : ℕ) → n < 256 → portOf n ≡ n
-whole n h = rw (lt-ltb n 256 h)
+whole : (n : ℕ) → n ≤ portCount → portOf n ≡ n
+whole n h = rw (le-leb n portCount h)
 
 -- the candidate that is read out of its own words, wherever they stand
 abbrev again : Candidate → Candidate
@@ -79,8 +80,8 @@ two-by n h = two n (ltb-true n 65536 h)
 next : (b : ℕ) → b + 7 + 1 ≡ b + 8
 next b = omega arith
 
--- words that fit, with a port that is an octet, are those of the candidate that is read out of them: none of them is cut
-pub candidate-again : (w : List ℕ) (b : ℕ) → candidateFits w b ≡ true → getD w (b + 9) 0 < 256 → candidateWords (candidateAt w b) ≡ wordsAt w b
+-- words that fit, with a port that is none past the last, are those of the candidate that is read out of them: none of them is cut
+pub candidate-again : (w : List ℕ) (b : ℕ) → candidateFits w b ≡ true → getD w (b + 9) 0 ≤ portCount → candidateWords (candidateAt w b) ≡ wordsAt w b
 candidate-again w b h p =
     let flags = both _ _ h in
     let sender = both _ _ (flags .0) in
@@ -105,7 +106,7 @@ candidate-again w b h p =
 
 -- so are those of a list of four
 pub list-again : (w : List ℕ) → candidateFits w 1 ≡ true → candidateFits w 12 ≡ true → candidateFits w 23 ≡ true → candidateFits w 34 ≡ true
-    → getD w 10 0 < 256 → getD w 21 0 < 256 → getD w 32 0 < 256 → getD w 43 0 < 256
+    → getD w 10 0 ≤ portCount → getD w 21 0 ≤ portCount → getD w 32 0 ≤ portCount → getD w 43 0 ≤ portCount
     → rankedWords (rankedOf w) ≡ getD w 0 0 ∷ (wordsAt w 1 ++ (wordsAt w 12 ++ (wordsAt w 23 ++ wordsAt w 34)))
 list-again w a b c d p q r s =
     λ i. getD w 0 0 ∷ (candidate-again w 1 a p i ++ (candidate-again w 12 b q i ++ (candidate-again w 23 c r i ++ candidate-again w 34 d s i)))

@@ -6,10 +6,11 @@ use mathlib.Core.Bool.{Bool, true, false}
 use mathlib.Core.List.{List, [], _∷_, map}
 use native.Mathlib.Omega.{arith}
 use native.Mathlib.Numerals.{add-one}
-use borrow.Author.Tests.{eq-eqb, ne-eqb, lt-ltb, ltb-true, ltb-false, eqb-true, eqb-false}
-use lib.Dec.{ltb, eqb}
+use borrow.Author.Tests.{eq-eqb, ne-eqb, lt-ltb, ltb-true, ltb-false, leb-true, le-leb, eqb-true, eqb-false}
+use lib.Dec.{ltb, leb, eqb}
 use lib.ListN.{length, take, drop, set, getD, length-map, List·getD-map, List·getD-append}
 use lib.Seq.{drop-cons, set-getD, getD-set-same, getD-set-other, getD-take, getD-drop, getD-append-add, length-take-le}
+use Rattle.refusal.specs.Limits.{portCount}
 use Rattle.words.specs.Words.{portOf}
 use Rattle.rank.specs.Order.{lex, keysOf, earlierOf}
 use Rattle.rank.specs.declared.Candidate.{Candidate}
@@ -66,14 +67,14 @@ fits-row (w ∷ ws) zero h v = both (candidateFits w 0) (runFits ws) v .0
 fits-row (w ∷ ws) (suc i) h v = fits-row ws i (omega arith) (both (candidateFits w 0) (runFits ws) v .1)
 
 -- a word that names a port of the clock is that port
-port-below : (p : ℕ) → isPort (portOf p) ≡ true → p < 256
+port-below : (p : ℕ) → isPort (portOf p) ≡ true → p ≤ portCount
 port-below p h =
-    cases (ltb p 256)
-    (λ e. ltb-true p 256 e)
+    cases (leb p portCount)
+    (λ e. leb-true p portCount e)
     (λ e. absurd (let z : false ≡ true = simp e at h in let k : _≡_ {A = ℕ} 0 1 = cc in omega arith))
 
 port-same : (p : ℕ) → isPort (portOf p) ≡ true → portOf p ≡ p
-port-same p h = rw (lt-ltb p 256 (port-below p h))
+port-same p h = rw (le-leb p portCount (port-below p h))
 
 module _ (run : List (List ℕ)) where
   -- the keys of a candidate are its words

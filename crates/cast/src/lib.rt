@@ -1,7 +1,7 @@
-// Who is heard on the day that the program `day` tells: two masters, a boundary clock, a tenant's own clock, a looped cable, and
-// tenants with endless new names. Each writes its Announces with the engine's own writer, and the clock takes them from the octets.
-// Beside it the slave port's exchange. All of it is made up, so there is nothing that a contract could hold it to: its
-// functions are proved to end and to stay in bounds.
+// Who is heard on the day that the program `day` tells: two masters, a boundary clock, a tenant's own clock, a looped cable, tenants
+// with endless new names, and two clocks of a tenant that follow each other. Each writes its Announces with the engine's own writer,
+// and the clock takes them from the octets. Beside it the slave port's exchange. All of it is made up, so there is nothing that a
+// contract could hold it to: its functions are proved to end and to stay in bounds.
 use message::fields::Announce;
 use message::fields::Body;
 use message::fields::Header;
@@ -337,12 +337,63 @@ fn flooding(
     port
 }
 
+// Two clocks of a tenant follow each other from 12:52 on: what the first master announced goes round between them and gains a step
+// at each beat, also when that master has fallen silent. One of the two is heard on our port.
+const ECHO: u64 = 0x00e5_0000_0000_0005;
+
+const CORNER: u8 = 16;
+
+const CIRCLES: u64 = 12 * 3600 + 52 * 60;
+
+// How many steps the echo is away: 1 at first.
+fn rounds(second: u64) -> u16 {
+    (std::num::wrapping_sub_u64(second, CIRCLES) / BEAT % 65535) as u16 + 1
+}
+
+// The page says when the loop begins, and when it is so far away that it does not count any more.
+fn loop_told(counts: &[u64; COUNTS], t: u64, steps: u16) {
+    if steps == 1 {
+        page::tell(
+            b"%t  port %d: two clocks of a tenant follow each other and announce %x, a step more each time\n",
+            &[t, CORNER as u64, FIRST],
+        );
+    } else if steps == senders::DISTANT {
+        page::tell(
+            b"%t  port %d: the loop goes on: %d Announces taken, the last of %d steps\n",
+            &[
+                t,
+                CORNER as u64,
+                tally::of(counts, CORNER, tally::TAKEN),
+                steps as u64,
+            ],
+        );
+    }
+}
+
+// What the echo brings behind a beat.
+fn echoed(words: &mut [u64; ports::WORDS], counts: &mut [u64; COUNTS], second: u64) {
+    let t = instant(second);
+    let steps = rounds(second);
+    let s = Speaker {
+        clock: ECHO,
+        port: CORNER,
+        identity: FIRST,
+        priority2: BETTER,
+        steps,
+    };
+    heard(words, counts, t, s, number(second), b"");
+    loop_told(counts, t, steps);
+}
+
 // What the tenants do behind the beat of a second: the port on which a flood is over with it, else 0.
 pub fn tenants(words: &mut [u64; ports::WORDS], counts: &mut [u64; COUNTS], second: u64) -> u8 {
     let h = second / 3600;
     let port = flooded(h);
     if (h == LOOP) & (second % 3600 < LOOPED) {
         looped(words, counts, second);
+    }
+    if CIRCLES <= second {
+        echoed(words, counts, second);
     }
     if (port != 0) & (second % 3600 < FLOODED) {
         flooding(words, counts, port, second)

@@ -15,7 +15,7 @@ pub mod writing;
 // The number of this library: DZ_VERSION of the header that belongs to it.
 #[no_mangle]
 pub extern "C" fn dz_version() -> u64
-    ensures { λ r. ⌜ r ≡ 3 ⌝ }
+    ensures { λ r. ⌜ r ≡ 4 ⌝ }
 {
-    3
+    4
 }

@@ -5,5 +5,6 @@ pub mod Filling
 pub mod Deciding
 pub mod Cards
 pub mod Promises
+pub mod Near
 pub mod Determined
 pub mod Witnesses

@@ -5,10 +5,11 @@ use mathlib.Core.Bool.{Bool, true, false, _&&_}
 use mathlib.Core.List.{List, [], _∷_, _++_, map}
 use Prim.Native.Nat.{ℕ, zero, suc, _+_, _-_, _*_, _/_, _%_, _≤_, _<_}
 use native.Mathlib.Omega.{arith}
-use lib.Dec.{eqb, ltb}
+use lib.Dec.{eqb, ltb, leb}
 use lib.ListN.{length, getD, set, drop, length-append}
 use lib.Seq.{getD-take, getD-drop, getD-set-other, ext-getD}
 use borrow.Author.Tests.{eqb-true, eqb-false, ltb-true, ltb-false, lt-ltb, le-ltb, le-leb}
+use Rattle.refusal.specs.Limits.{portCount}
 use Rattle.refusal.specs.Choice.{pick, refuse}
 use Rattle.refusal.specs.Refusal.{codeOf}
 use Rattle.refusal.specs.declared.Refusal.the-variants.{Many}
@@ -179,7 +180,7 @@ calls-commute ws n c d other =
 
 -- two different words that name one port name none
 no-port : (w v : ℕ) → (w ≡ v → ⊥) → portOf w ≡ portOf v → isPort (portOf w) ≡ false
-no-port w v other = go (ltb w 256) (ltb v 256)
+no-port w v other = go (leb w portCount) (leb v portCount)
   where
     go : (a b : Bool) → pick a w 0 ≡ pick b v 0 → isPort (pick a w 0) ≡ false
     go true true e = absurd (other e)

@@ -1,11 +1,11 @@
 -- Laws of eighteen ports: a port that is one, its part of the words, and the cases of taking and setting.
 use mathlib.Core.Path.{_≡_, refl, sym, ap, _∙_}
-use mathlib.Core.Bool.{Bool, true, false, not, _&&_, or-false}
+use mathlib.Core.Bool.{Bool, true, false, not, or-false}
 use mathlib.Core.List.{List, _++_}
 use Prim.Native.Nat.{ℕ, suc, _+_, _-_, _*_, _%_, _≤_, _<_}
 use native.Mathlib.Omega.{arith}
 use native.Mathlib.Decide.{decLe}
-use lib.Dec.{leb, ltb}
+use lib.Dec.{leb}
 use lib.IntN.{ℤ, pos, negsuc}
 use lib.ListN.{take, drop, set, take-append-drop}
 use lib.Seq.{drop-drop}
@@ -14,7 +14,7 @@ use mir.Val.{toZ, ofZ, SFits}
 use mir.ValLaws.{toZ-pos, toZ-neg}
 use borrow.Author.Tests.{not-true, not-false, leb-true, le-leb, lt-leb, lt-ltb, le-ltb}
 pub use Rattle.refusal.proofs.Limits.{port-bounds}
-use Rattle.refusal.specs.Choice.{pick, refuse}
+use Rattle.refusal.specs.Choice.{refuse}
 use Rattle.refusal.specs.declared.Refusal.{Refusal}
 use Rattle.refusal.specs.declared.Refusal.the-variants.{Port, Field}
 use Rattle.refusal.specs.declared.Outcome.{Outcome}
@@ -87,18 +87,10 @@ module _ (set : Settings) (ws : List ℕ) (port t : ℕ) (s : List ℕ) where
 
 -- a word that names a port, and one past them
 pub port-is : (w : ℕ) → w ≤ 18 → named.portOf w ≡ w
-port-is w h = rw (lt-ltb w 256 (omega arith))
+port-is w h = rw (le-leb w 18 h)
 
 no-port : (w : ℕ) → 18 < w → isPort (named.portOf w) ≡ false
-no-port w h = by (ltb w 256)
-  where
-    none : (b : Bool) → (b && false) ≡ false
-    none true = refl
-    none false = refl
-
-    by : (b : Bool) → isPort (pick b w 0) ≡ false
-    by true = rw (lt-leb w 18 h) (none (leb 1 w))
-    by false = refl
+no-port w h = rw (lt-leb w 18 h)
 
 pub take-no-port : (set : Settings) (ws : List ℕ) (w t : ℕ) (s : List ℕ) → 18 < w
     → (outcome.Refused Port ≡ senders.outcomeOf (planAt set ws (named.portOf w) t s)) × (ws ≡ stateAfter ws (named.portOf w) t (planAt set ws (named.portOf w) t s))

@@ -15,9 +15,9 @@ use Rattle.senders.specs.declared.Asked.the-variants.{Found}
 use Rattle.senders.specs.Record.{candidateOf}
 use Rattle.senders.specs.Port.{bestOf}
 use Rattle.slots.specs.Words.{block, recordOf}
-use Rattle.slots.specs.Places.{placeIn, aboveIn}
+use Rattle.slots.specs.Places.{placeIn, foundIn, aboveIn}
 use Rattle.slots.proofs.Cases.{Words64}
-use Rattle.slots.proofs.Begins.{foundIn, place-best, place-bound, above-is}
+use Rattle.slots.proofs.Begins.{place-best, place-bound, above-is}
 use Rattle.ports.specs.Words.{own, portAt}
 use Rattle.ports.specs.Places.{placeFrom, placeOn, portBy, candidateAt, foundAt}
 use Rattle.ports.proofs.Laws.{port-bounds, lent-own}

@@ -16,6 +16,9 @@ is-live-determined κs a x y v w p q = (p ∙ sym q, refl)
 pub is-free-determined : Fixes its.is_free.ended its.is_free.Reads.Post
 is-free-determined κs a x y v w p q = (p ∙ sym q, refl)
 
+pub is-distant-determined : Fixes its.is_distant.ended its.is_distant.Reads.Post
+is-distant-determined κs a x y v w p q = (p ∙ sym q, refl)
+
 pub is-qualified-determined : Fixes its.is_qualified.ended its.is_qualified.Reads.Post
 is-qualified-determined κs a x y v w p q = (p ∙ sym q, refl)
 

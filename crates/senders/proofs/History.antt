@@ -210,7 +210,7 @@ module _ (hs : List PortEvent) (port i t : ℕ) (h : i < 16) where
 
   qualified-twice : (r : Record) → slotOf (madeBy hs) i ≡ r → isQualified w t r ≡ true → candidateBy port w t (acceptedFrom (r .notice .sender) hs) ≡ Found (candidateOf port r)
   qualified-twice r e q =
-      let two : 2 ≤ r .receipts = leb-true _ _ (both _ _ q .0) in
+      let two : 2 ≤ r .receipts = leb-true _ _ (both _ _ (both _ _ q .0) .0) in
       let own : isOf (r .notice .sender) r ≡ true = is-of (r .notice .sender) r refl (ne-eqb (r .receipts) 0 (λ z. omega arith)) in
       heard-twice r (sym e ∙ record-is hs (r .notice .sender) i h (ap (isOf (r .notice .sender)) e ∙ own)) q
 
@@ -221,7 +221,7 @@ module _ (hs : List PortEvent) (port i t : ℕ) (h : i < 16) where
       let same : candidateOf port r ≡ c = cc in
       subst (λ (d : Candidate). candidateBy port w t (acceptedFrom (d .sender) hs) ≡ Found d) same (qualified-twice r e q)
 
-  -- WHOEVER IS A CANDIDATE at t: its two latest accepted Announces lie with the older within W of t
+  -- WHOEVER IS A CANDIDATE at t: its two latest accepted Announces lie with the older within W of t, and the last is not distant
   pub candidate-only : (c : Candidate) → candidateIn port (madeBy hs) i t ≡ Found c → candidateBy port w t (acceptedFrom (c .sender) hs) ≡ Found c
   unfolding candidateIn
   candidate-only c f = only-by c (slotOf (madeBy hs) i) refl (isQualified w t (slotOf (madeBy hs) i)) refl f

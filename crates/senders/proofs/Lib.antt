@@ -6,5 +6,6 @@ pub mod Keeping
 pub mod History
 pub mod Steady
 pub mod Candidates
+pub mod Blind
 pub mod Witnesses
 pub mod Determined

@@ -21,7 +21,7 @@ use Rattle.senders.specs.declared.Record.{Record}
 use Rattle.senders.specs.declared.Plan.{Plan}
 use Rattle.senders.specs.declared.Plan.the-variants.{Refuse, Put}
 use Rattle.senders.specs.declared.Asked.the-variants.{Absent, Found}
-use Rattle.senders.specs.Record.{windowOf, isOf, isNewer, freshOf, nextOf, candidateOf}
+use Rattle.senders.specs.Record.{windowOf, isOf, isDistant, isNewer, freshOf, nextOf, candidateOf}
 use Rattle.senders.specs.Port.{Port, emptySlot, slotOf, planOf, portAfter, candidateIn, Live}
 use Rattle.senders.specs.History.{PortEvent, announced, interval, madeBy, Receipt, accepts, isBy, acceptedFrom, hasLive, since, keptOf, candidateBy, staleBy, unbroken, Steady}
 use Rattle.laws.proofs.Bools.{clash}
@@ -226,10 +226,10 @@ pub record FoundIn (port : ℕ) (p : Port) (t : ℕ) (c : Candidate) : Type 0 wh
   pub is : candidateIn port p at t ≡ Found c
 
 module _ (hs : List PortEvent) (port w t : ℕ) (steady : Steady w hs) (we : windowOf (madeBy hs .e) ≡ w) (later : madeBy hs .last ≤ t) (x : PortIdentity) where
-  found-in : (c : Candidate) (n o : Receipt) (l : List Receipt) → acceptedFrom x hs ≡ n ∷ o ∷ l → t - o .at ≤ w → Found (candidateOf port (keptOf (n ∷ o ∷ l))) ≡ Found c
+  found-in : (c : Candidate) (n o : Receipt) (l : List Receipt) → acceptedFrom x hs ≡ n ∷ o ∷ l → t - o .at ≤ w → isDistant (n .notice) ≡ false → Found (candidateOf port (keptOf (n ∷ o ∷ l))) ≡ Found c
       → FoundIn port (madeBy hs) t c
   unfolding candidateIn
-  found-in c n o l f near is =
+  found-in c n o l f near close is =
       let a = past x hs n (o ∷ l) f in
       let b = ordered x hs n o l f in
       let there = holds x w hs steady n (o ∷ l) f (omega arith) in
@@ -238,17 +238,19 @@ module _ (hs : List PortEvent) (port w t : ℕ) (steady : Steady w hs) (we : win
       ∙ ap keptOf (since-is x w hs steady ∙ ap (unbroken w) f)
       ∙ two-kept x w n o l (le-leb (n .at - o .at) w (omega arith)) in
       let q : leb (t - o .at) (windowOf (madeBy hs .e)) ≡ true = le-leb (t - o .at) (windowOf (madeBy hs .e)) (rw we near) in
-      record { at = there .at; inside = there .inside; is = rw (kept, q) is }
+      record { at = there .at; inside = there .inside; is = rw (kept, q, close) is }
 
   when-by : (c : Candidate) (l : List Receipt) → acceptedFrom x hs ≡ l → candidateBy port w t l ≡ Found c → FoundIn port (madeBy hs) t c
   when-by c [] f e = absurd (let z : _≡_ {A = ℕ} 0 1 = cc in omega arith)
   when-by c (n ∷ []) f e = absurd (let z : _≡_ {A = ℕ} 0 1 = cc in omega arith)
   when-by c (n ∷ o ∷ l) f e =
-      cases (leb (t - o .at) w)
-      (λ h. found-in c n o l f (leb-true _ _ h) (rw h at e))
+      cases (leb (t - o .at) w && not (isDistant (n .notice)))
+      (λ h.
+      let b = both (leb (t - o .at) w) (not (isDistant (n .notice))) h in
+      found-in c n o l f (leb-true _ _ (b .0)) (not-true _ (b .1)) (rw h at e))
       (λ h. absurd (let g : Absent ≡ Found c = rw h at e in let z : _≡_ {A = ℕ} 0 1 = cc in omega arith))
 
-  -- and, where the interval is not changed, WHOSE TWO LATEST ACCEPTED ANNOUNCES LIE SO IS A CANDIDATE, at every time that is not refused
+  -- and, where the interval is not changed, WHOSE TWO LATEST ACCEPTED ANNOUNCES LIE SO, AND WHO IS NOT DISTANT, IS A CANDIDATE, at every time that is not refused
   pub candidate-when : (c : Candidate) → candidateBy port w t (acceptedFrom x hs) ≡ Found c → FoundIn port (madeBy hs) t c
   candidate-when c e = when-by c (acceptedFrom x hs) refl e
 

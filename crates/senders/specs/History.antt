@@ -13,7 +13,7 @@ use Rattle.senders.specs.declared.Plan.{Plan}
 use Rattle.senders.specs.declared.Plan.the-variants.{Refuse, Put}
 use Rattle.senders.specs.declared.Asked.{Asked}
 use Rattle.senders.specs.declared.Asked.the-variants.{Absent, Found}
-use Rattle.senders.specs.Record.{windowOf, isOf, isLive, isNewer, candidateOf}
+use Rattle.senders.specs.Record.{windowOf, isOf, isLive, isDistant, isNewer, candidateOf}
 use Rattle.senders.specs.Port.{Port, tab, emptySlot, first, planOf, portAfter}
 
 -- what happens to a port: an Announce at a time, or an interval that is set (k modulo 8)
@@ -78,12 +78,12 @@ keptOf [] = emptySlot
 keptOf (n ∷ []) = record { notice = n .notice; receipts = 1; newest = n .at; older = 0 }
 keptOf (n ∷ o ∷ l) = record { notice = n .notice; receipts = 2; newest = n .at; older = o .at }
 
--- the candidate that a sender's accepted Announces make at t under a window w: none unless there are two and the older of the last
--- two lies within w of t; then by the data of the last
+-- the candidate that a sender's accepted Announces make at t under a window w: none unless there are two, the older of the last
+-- two lies within w of t, and the last is not distant; then by the data of the last
 abbrev pub candidateBy : ℕ → ℕ → ℕ → List Receipt → Asked
 candidateBy port w t [] = Absent
 candidateBy port w t (n ∷ []) = Absent
-candidateBy port w t (n ∷ o ∷ l) = pick (leb (t - o .at) w) (Found (candidateOf port (keptOf (n ∷ o ∷ l)))) Absent
+candidateBy port w t (n ∷ o ∷ l) = pick (leb (t - o .at) w && not (isDistant (n .notice))) (Found (candidateOf port (keptOf (n ∷ o ∷ l)))) Absent
 
 -- 12 by a sender's accepted Announces: "live record, sequenceId not newer"
 abbrev pub staleBy : ℕ → ℕ → Notice → List Receipt → Bool

@@ -24,9 +24,13 @@ isLive w t r = not (eqb (r .receipts) 0) && leb (t - r .newest) w
 abbrev pub isFree : ℕ → ℕ → Record → Bool
 isFree w t r = not (isLive w t r)
 
--- "qualified while its two latest receipts lie with T - older <= W"
+-- 02 (iii), after IEEE 1588-2008, 9.3.2.5: "a record whose latest data has 255 or more is kept but not qualified; 254 is"
+abbrev pub isDistant : Notice → Bool
+isDistant a = leb 255 (a .steps)
+
+-- "qualified while its two latest receipts lie with T - older <= W"; (iii) takes the distant ones out
 abbrev pub isQualified : ℕ → ℕ → Record → Bool
-isQualified w t r = leb 2 (r .receipts) && leb (t - r .older) w
+isQualified w t r = (leb 2 (r .receipts) && leb (t - r .older) w) && not (isDistant (r .notice))
 
 -- "(new - old) mod 65,536 in 1 to 32,767"
 abbrev pub isNewer : ℕ → ℕ → Bool

@@ -1,14 +1,14 @@
 // One sender's record, and what an Announce does to a port's records, over plain values.
 //
 // A port keeps sixteen records. A record is live while its newest receipt lies in the window, and its sender is a candidate
-// while its two latest receipts do. What an Announce does is a plan: to refuse it, or to put a record into a slot. A live
+// while its two latest receipts do and it is not too many steps away. What an Announce does is a plan: to refuse it, or to put a record into a slot. A live
 // record is never put out for a new sender.
 //
 // Refused here: 12 (a live sender's sequenceId is not newer) and 13 (a new sender, and sixteen live ones). Where the
 // records are kept, and what is refused before an Announce comes here, is left to those above.
 ghost use mathlib.Core.Path.{_≡_};
 ghost use Prim.Native.Nat.{_-_};
-ghost use Rattle.senders.specs.Record.{windowOf, isOf, isLive, isFree, isQualified, isNewer, freshOf, nextOf, candidateOf};
+ghost use Rattle.senders.specs.Record.{windowOf, isOf, isLive, isFree, isDistant, isQualified, isNewer, freshOf, nextOf, candidateOf};
 ghost use Rattle.senders.specs.Port.{knownOf, newOf};
 use rank::Candidate;
 use rank::Grandmaster;
@@ -93,11 +93,23 @@ pub fn is_free(r: Record, w: u64, t: u64) -> bool
     !is_live(r, w, t)
 }
 
-// Whether the sender was heard twice within the window.
+// So many steps from its grandmaster a clock counts for nothing: what it says may only be going round in a loop.
+pub const DISTANT: u16 = 255;
+
+// Whether the sender is so far away from the grandmaster that it announces.
+pub fn is_distant(a: Notice) -> bool
+    ensures { λ b. ⌜ b ≡ isDistant a ⌝ }
+{
+    DISTANT <= a.steps
+}
+
+// Whether the sender was heard twice within the window, and is not distant by what it said last.
 pub fn is_qualified(r: Record, w: u64, t: u64) -> bool
     ensures { λ b. ⌜ b ≡ isQualified w t r ⌝ }
 {
-    (2 <= r.receipts) & (age(t, r.older) <= w)
+    let n = r.notice;
+    // written so that the compiled code looks at the receipts first: an empty slot is done with after one test
+    !is_distant(n) & (age(t, r.older) <= w) & (2 <= r.receipts)
 }
 
 // Whether a sequenceId comes after another, around the end of its 16 bits.

@@ -2,9 +2,9 @@
 use mathlib.Core.Path.{_≡_, refl, sym, ap, _∙_}
 use mathlib.Core.Bool.{Bool, true, false, _&&_}
 use mathlib.Core.List.{List, [], _∷_, map}
-use Prim.Native.Nat.{ℕ, zero, suc, _+_, _-_, _*_, _≤_, _<_}
+use Prim.Native.Nat.{ℕ, zero, suc, _+_, _-_, _≤_, _<_}
 use native.Mathlib.Omega.{arith}
-use lib.Dec.{ltb}
+use lib.Dec.{eqb}
 use lib.ListN.{length, getD, take, drop}
 use lib.Seq.{drop-cons, getD-take, getD-drop}
 use borrow.Author.Tests.{lt-ltb, le-ltb, ne-eqb, eq-eqb}
@@ -23,8 +23,8 @@ use Rattle.senders.specs.declared.Asked.the-variants.{Refused, Absent, Found}
 use Rattle.senders.specs.Record.{windowOf, isOf, isFree, isQualified, candidateOf}
 use Rattle.senders.specs.Port.{Port, emptySlot, slotOf, tab, first, kept, knownOf, newOf, planOf, askedOf, candidateIn, candidatesOf, bestOf, headOf}
 use Rattle.slots.specs.declared.Seen.the-variants.{Empty, Held}
-use Rattle.slots.specs.Words.{recordOf, slotAt, slotsOf, portOf, seenIn, candidateAt, aheadIn, outdoesIn, bestIn}
-use Rattle.slots.specs.Places.{slotAmong}
+use Rattle.slots.specs.Words.{block, recordOf, slotAt, slotsOf, portOf, seenIn, aheadIn, outdoesIn, bestIn}
+use Rattle.slots.specs.Places.{beginOf, placeAmong, foundIn}
 use Rattle.slots.proofs.Laws.{length-tab, getD-tab, getD-past}
 use Rattle.slots.proofs.Order.{earlier-words}
 
@@ -113,13 +113,13 @@ module _ (port w t : ℕ) (r : Record) (l : List Record) where
   unfolding bestIn kept
   best-cons = cons-by (isQualified w t r)
 
--- one slot more, by the three tests: qualified, one before it, earlier
-turned : (A : ℕ → Asked) (i b : ℕ) (c d : Candidate) (q x y : Bool) → A i ≡ Found c → A b ≡ pick x (Found d) Absent → earlierOf c d ≡ y
-    → A (pick (q && pick x y true) i b) ≡ pick q (ahead c (A b)) (A b)
-turned A i b c d true true true ai ab e = ai ∙ sym (ap (ahead c) ab ∙ ap (λ (z : Bool). pick z (Found c) (Found d)) e)
-turned A i b c d true true false ai ab e = ab ∙ sym (ap (ahead c) ab ∙ ap (λ (z : Bool). pick z (Found c) (Found d)) e)
-turned A i b c d true false y ai ab e = ai ∙ sym (ap (ahead c) ab)
-turned A i b c d false x y ai ab e = refl
+-- one record more, by the three tests: qualified, none before it, earlier
+turned : (A : ℕ → Asked) (a b : ℕ) (c d : Candidate) (q x y : Bool) → A a ≡ Found c → A b ≡ pick x Absent (Found d) → earlierOf c d ≡ y
+    → A (pick (q && pick x true y) a b) ≡ pick q (ahead c (A b)) (A b)
+turned A a b c d true false true ai ab e = ai ∙ sym (ap (ahead c) ab ∙ ap (λ (z : Bool). pick z (Found c) (Found d)) e)
+turned A a b c d true false false ai ab e = ab ∙ sym (ap (ahead c) ab ∙ ap (λ (z : Bool). pick z (Found c) (Found d)) e)
+turned A a b c d true true y ai ab e = ai ∙ sym (ap (ahead c) ab)
+turned A a b c d false x y ai ab e = refl
 
 -- the words are words
 abbrev pub Words64 : List ℕ → Type 0
@@ -128,10 +128,10 @@ Words64 ws = (k : ℕ) → getD ws k 0 < 0x10000000000000000
 pub grade-word : (ws : List ℕ) (c : ℕ) → Words64 ws → getD (take 6 (drop c ws)) 5 0 < 0x10000000000000000
 grade-word ws c words = let e = getD-take 6 (drop c ws) 5 0 (omega arith) ∙ getD-drop c ws 5 0 in rw e (words (c + 5))
 
-ahead-is : (port : ℕ) (ws : List ℕ) (i b : ℕ) → Words64 ws → aheadIn ws i b ≡ earlierOf (candidateOf port (slotAt ws i)) (candidateOf port (slotAt ws b))
+ahead-is : (port : ℕ) (ws : List ℕ) (a b : ℕ) → Words64 ws
+    → aheadIn ws a b ≡ earlierOf (candidateOf port (recordOf (block ws a 6))) (candidateOf port (recordOf (block ws b 6)))
 unfolding aheadIn recordOf
-ahead-is port ws i b words =
-    earlier-words port (take 6 (drop (2 + 6 * i) ws)) (take 6 (drop (2 + 6 * b) ws)) (grade-word ws (2 + 6 * i) words) (grade-word ws (2 + 6 * b) words)
+ahead-is port ws a b words = earlier-words port (block ws a 6) (block ws b 6) (grade-word ws a words) (grade-word ws b words)
 
 module _ (port : ℕ) (ws : List ℕ) (words : Words64 ws) (w t i b : ℕ) (h : i < 16) where
   from-here : drop i (slotsOf ws) ≡ slotAt ws i ∷ drop (suc i) (slotsOf ws)
@@ -140,39 +140,40 @@ module _ (port : ℕ) (ws : List ℕ) (words : Words64 ws) (w t i b : ℕ) (h : 
       drop-cons (slotsOf ws) i emptySlot n ∙ ap (λ (r : Record). r ∷ drop (suc i) (slotsOf ws)) (sym (slot-is ws i h))
 
   -- the walk from the last slot to the first
-  pub best-turn : (o : Bool) (j : ℕ) → o ≡ outdoesIn ws i b w t → j ≡ suc i → candidateAt port ws b ≡ bestIn port w t (drop j (slotsOf ws))
-      → candidateAt port ws (pick o i b) ≡ bestIn port w t (drop i (slotsOf ws))
-  best-turn o j eo ej inv =
+  best-turn : (j : ℕ) → j ≡ suc i → foundIn port ws b ≡ bestIn port w t (drop j (slotsOf ws))
+      → foundIn port ws (pick (outdoesIn ws (beginOf i) b w t) (beginOf i) b) ≡ bestIn port w t (drop i (slotsOf ws))
+  best-turn j ej inv =
+      let a = beginOf i in
       let c = candidateOf port (slotAt ws i) in
       let q = isQualified w t (slotAt ws i) in
-      let d = candidateOf port (slotAt ws b) in
-      ap (λ (z : Bool). candidateAt port ws (pick z i b)) (eo ∙ ap (λ (z : Bool). q && pick (ltb b 16) z true) (ahead-is port ws i b words))
-      ∙ turned (candidateAt port ws) i b c d q (ltb b 16) (earlierOf c d) (rw (lt-ltb _ _ h)) refl refl
+      let d = candidateOf port (recordOf (block ws b 6)) in
+      ap (λ (z : Bool). foundIn port ws (pick (q && pick (eqb b 0) true z) a b)) (ahead-is port ws a b words)
+      ∙ turned (foundIn port ws) a b c d q (eqb b 0) (earlierOf c d) (rw (ne-eqb a 0 (λ e. omega arith))) refl refl
       ∙ ap (λ (z : Asked). pick q (ahead c z) z) (inv ∙ ap (λ (k : ℕ). bestIn port w t (drop k (slotsOf ws))) ej)
       ∙ sym (ap (bestIn port w t) from-here ∙ best-cons port w t (slotAt ws i) (drop (suc i) (slotsOf ws)))
 
-pub best-start : (port : ℕ) (ws : List ℕ) (w t : ℕ) → candidateAt port ws 16 ≡ bestIn port w t (drop 16 (slotsOf ws))
+best-start : (port : ℕ) (ws : List ℕ) (w t : ℕ) → foundIn port ws 0 ≡ bestIn port w t (drop 16 (slotsOf ws))
 unfolding bestIn kept tab
 best-start port ws w t = refl
 
--- so that the slot among the last n is that of the best of them
+-- so that what begins at the place among the last n slots is the best of them
 pub best-among : (port : ℕ) (ws : List ℕ) → Words64 ws → (w t n : ℕ) → n ≤ 16
-    → candidateAt port ws (slotAmong ws w t n) ≡ bestIn port w t (drop (16 - n) (slotsOf ws))
-unfolding slotAmong
+    → foundIn port ws (placeAmong ws w t n) ≡ bestIn port w t (drop (16 - n) (slotsOf ws))
+unfolding placeAmong
 best-among port ws words w t zero h = best-start port ws w t
 best-among port ws words w t (suc n) h =
     let e : 16 - n ≡ suc (15 - n) = omega arith in
     let f : 16 - suc n ≡ 15 - n = omega arith in
-    best-turn port ws words w t (15 - n) (slotAmong ws w t n) (omega arith) _ (16 - n) refl e (best-among port ws words w t n (omega arith))
+    best-turn port ws words w t (15 - n) (placeAmong ws w t n) (omega arith) (16 - n) e (best-among port ws words w t n (omega arith))
     ∙ ap (λ (k : ℕ). bestIn port w t (drop k (slotsOf ws))) (sym f)
 
-module _ (port : ℕ) (ws : List ℕ) (w t b : ℕ) (ew : w ≡ windowOf (portOf ws .e)) (is : candidateAt port ws b ≡ bestIn port w t (slotsOf ws)) where
-  its : candidateAt port ws b ≡ bestOf port (portOf ws) t
+module _ (port : ℕ) (ws : List ℕ) (w t b : ℕ) (ew : w ≡ windowOf (portOf ws .e)) (is : foundIn port ws b ≡ bestIn port w t (slotsOf ws)) where
+  its : foundIn port ws b ≡ bestOf port (portOf ws) t
   unfolding bestIn bestOf candidatesOf
   its = rw (← ew) is
 
-  pub best-yes : (r : Record) (c : Candidate) → b < 16 → r ≡ slotAt ws b → c ≡ candidateOf port r → Found c ≡ bestOf port (portOf ws) t
-  best-yes r c h er ec = ap Found (ec ∙ ap (candidateOf port) er) ∙ rw (lt-ltb _ _ h) at its
+  pub best-yes : (r : Record) (c : Candidate) → (b ≡ 0 → ⊥) → r ≡ recordOf (block ws b 6) → c ≡ candidateOf port r → Found c ≡ bestOf port (portOf ws) t
+  best-yes r c h er ec = ap Found (ec ∙ ap (candidateOf port) er) ∙ rw (ne-eqb _ _ h) at its
 
-  pub best-no : 16 ≤ b → Absent ≡ bestOf port (portOf ws) t
-  best-no h = rw (le-ltb _ _ h) at its
+  pub best-no : b ≡ 0 → Absent ≡ bestOf port (portOf ws) t
+  best-no h = rw (eq-eqb _ _ h) at its

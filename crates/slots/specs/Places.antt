@@ -6,21 +6,27 @@ use mathlib.Core.List.{List}
 use lib.Dec.{eqb, ltb}
 use lib.ListN.{getD}
 use Rattle.refusal.specs.Choice.{pick}
-use Rattle.senders.specs.Record.{windowOf}
-use Rattle.slots.specs.Words.{portOf, outdoesIn}
+use Rattle.senders.specs.declared.Asked.{Asked}
+use Rattle.senders.specs.declared.Asked.the-variants.{Absent, Found}
+use Rattle.senders.specs.Record.{windowOf, candidateOf}
+use Rattle.slots.specs.Words.{block, recordOf, portOf, outdoesIn}
 
--- the slot of the best of the last n slots, or 16
-unfoldable pub slotAmong : List ℕ → ℕ → ℕ → ℕ → ℕ
-slotAmong ws w t zero = 16
-slotAmong ws w t (suc n) = pick (outdoesIn ws (15 - n) (slotAmong ws w t n) w t) (15 - n) (slotAmong ws w t n)
-
--- where a slot begins, 0 where it is none of the sixteen
+-- where a slot begins
 abbrev pub beginOf : ℕ → ℕ
-beginOf i = pick (ltb i 16) (2 + 6 * i) 0
+beginOf i = 2 + 6 * i
 
--- where the record of the best candidate begins
+-- where the record of the best of the last n slots begins, or 0
+unfoldable pub placeAmong : List ℕ → ℕ → ℕ → ℕ → ℕ
+placeAmong ws w t zero = 0
+placeAmong ws w t (suc n) = pick (outdoesIn ws (beginOf (15 - n)) (placeAmong ws w t n) w t) (beginOf (15 - n)) (placeAmong ws w t n)
+
+-- that of the best candidate
 unfoldable pub placeIn : List ℕ → ℕ → ℕ
-placeIn ws t = beginOf (slotAmong ws (windowOf (portOf ws .e)) t 16)
+placeIn ws t = placeAmong ws (windowOf (portOf ws .e)) t 16
+
+-- the candidate whose record begins at a place, where there is one
+abbrev pub foundIn : ℕ → List ℕ → ℕ → Asked
+foundIn port ws at = pick (eqb at 0) Absent (Found (candidateOf port (recordOf (block ws at 6))))
 
 -- the keys before the port: the quality as one number, the grandmaster, stepsRemoved, the sender
 abbrev pub aboveIn : List ℕ → List ℕ → Bool

@@ -14,7 +14,6 @@ use Rattle.senders.specs.declared.Record.{Record}
 use Rattle.senders.specs.declared.Plan.{Plan}
 use Rattle.senders.specs.declared.Plan.the-variants.{Refuse, Put}
 use Rattle.senders.specs.declared.Asked.{Asked}
-use Rattle.senders.specs.declared.Asked.the-variants.{Absent, Found}
 use Rattle.senders.specs.Record.{isOf, isFree, isQualified, candidateOf}
 use Rattle.senders.specs.Port.{Port, slotOf, tab, kept, headOf}
 use Rattle.slots.specs.declared.Sought.{Sought}
@@ -113,10 +112,6 @@ seenRecord r = pick (eqb (r .receipts) 0) Empty (Held r)
 unfoldable pub seenIn : Port → ℕ → Seen
 seenIn p i = seenRecord (slotOf p i)
 
--- the candidate in slot i, where it is one of the sixteen
-abbrev pub candidateAt : ℕ → List ℕ → ℕ → Asked
-candidateAt port ws i = pick (ltb i 16) (Found (candidateOf port (slotAt ws i))) Absent
-
 -- rank order of two records on one port, as their words show it: the quality as one number, the grandmaster, stepsRemoved, the sender, wrFlags
 abbrev pub laterIn : ℕ → ℕ → Bool
 laterIn a b =
@@ -132,13 +127,13 @@ beforeIn a b =
     (ltb (getD a 4 0) (getD b 4 0)))
     (ltb (getD a 5 0 / 0x10000) (getD b 5 0 / 0x10000))
 
--- slot i stands before slot b
+-- the record that begins at a stands before the one that begins at b
 unfoldable pub aheadIn : List ℕ → ℕ → ℕ → Bool
-aheadIn ws i b = beforeIn (block ws (2 + 6 * i) 6) (block ws (2 + 6 * b) 6)
+aheadIn ws a b = beforeIn (block ws a 6) (block ws b 6)
 
--- slot i is qualified, and stands before slot b where that is one
+-- it is qualified, and stands before the other where there is one
 abbrev pub outdoesIn : List ℕ → ℕ → ℕ → ℕ → ℕ → Bool
-outdoesIn ws i b w t = isQualified w t (slotAt ws i) && pick (ltb b 16) (aheadIn ws i b) true
+outdoesIn ws a b w t = isQualified w t (recordOf (block ws a 6)) && pick (eqb b 0) true (aheadIn ws a b)
 
 -- the best candidate of a list of records
 unfoldable pub bestIn : ℕ → ℕ → ℕ → List Record → Asked

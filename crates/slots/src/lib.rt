@@ -6,12 +6,12 @@
 // `put` carries a plan out and writes one record and the time. Asking refuses 11. Reading messages, and which port's words these
 // are, is left to those above.
 ghost use mathlib.Core.Path.{_≡_};
-ghost use Prim.Native.Nat.{_-_, _<_};
+ghost use Prim.Native.Nat.{_+_, _-_, _≤_, _<_};
 ghost use lib.ListN.{length, set};
 ghost use Rattle.senders.specs.Port.{first, planOf, askedOf, candidateIn, bestOf};
 ghost use Rattle.senders.specs.declared.Plan.the-variants.{Put};
-ghost use Rattle.slots.specs.Words.{ofSix, sixOf, idWord, gradeWord, slotAt, slotsOf, portOf, putSlot, wordsAfter, soughtIn, seenIn, beforeIn, laterIn, aheadIn, outdoesIn, portWords};
-ghost use Rattle.slots.specs.Places.{slotAmong, placeIn, aboveIn};
+ghost use Rattle.slots.specs.Words.{ofSix, sixOf, idWord, gradeWord, slotAt, slotsOf, portOf, putSlot, wordsAfter, soughtIn, seenIn, beforeIn, laterIn, outdoesIn, portWords};
+ghost use Rattle.slots.specs.Places.{placeAmong, placeIn, aboveIn};
 use rank::Grandmaster;
 use rank::PortIdentity;
 use refusal::Refusal;
@@ -247,28 +247,19 @@ fn later_keys(a: u64, b: u64) -> bool
     a / 0x100000000 % 0x10000 < b / 0x100000000 % 0x10000
 }
 
-// Whether slot `i` stands before slot `b`.
-fn is_ahead(ws: &[u64], i: usize, b: usize) -> bool
-    requires { ⌜ (length (now ws) ≡ portWords) × (i < 16) × (b < 16) ⌝ }
-    ensures { λ r. ⌜ r ≡ aheadIn (now (ws .entry)) i b ⌝ }
+// Whether the record that begins at `a` is qualified and stands before the one that begins at `b`; `b` is 0 where there is none.
+fn outdoes(ws: &[u64], a: usize, b: usize, w: u64, t: u64) -> bool
+    requires { ⌜ (length (now ws) ≡ portWords) × (a + 6 ≤ portWords) × (b + 6 ≤ portWords) ⌝ }
+    ensures { λ r. ⌜ r ≡ outdoesIn (now (ws .entry)) a b w t ⌝ }
 {
-    let from = 2 + 6 * i;
-    let to = 2 + 6 * b;
-    stands_before(&ws[from..from + 6], &ws[to..to + 6])
-}
-
-// Whether the record in slot `i` is qualified and stands before that in slot `b`, where `b` is one.
-fn outdoes(ws: &[u64], i: usize, b: usize, w: u64, t: u64) -> bool
-    requires { ⌜ (length (now ws) ≡ portWords) × (i < 16) ⌝ }
-    ensures { λ r. ⌜ r ≡ outdoesIn (now (ws .entry)) i b w t ⌝ }
-{
-    if !senders::is_qualified(load(ws, i), w, t) {
+    let s = &ws[a..a + 6];
+    if !senders::is_qualified(read(s), w, t) {
         return false;
     }
-    if b < SLOTS {
-        return is_ahead(ws, i, b);
+    if b == 0 {
+        return true;
     }
-    true
+    stands_before(s, &ws[b..b + 6])
 }
 
 // When the window that ends at `t` begins.
@@ -278,19 +269,20 @@ fn since(w: u64, t: u64) -> u64
     if w <= t { t - w } else { 0 }
 }
 
-// The slot of the best candidate at `t`, or 16; from the last slot to the first. A record is qualified at `t` where it is
-// at the begin of the window, by a window of no length: one comparison a slot.
-fn best_slot(ws: &[u64], w: u64, t: u64) -> usize
+// Where the record of the best candidate at `t` begins, or 0; from the last slot to the first. A record is qualified at `t`
+// where it is at the begin of the window, by a window of no length: one comparison a slot.
+fn best_place(ws: &[u64], w: u64, t: u64) -> usize
     requires { ⌜ length (now ws) ≡ portWords ⌝ }
-    ensures { λ r. ⌜ r ≡ slotAmong (now (ws .entry)) w t 16 ⌝ }
+    ensures { λ r. ⌜ r ≡ placeAmong (now (ws .entry)) w t 16 ⌝ }
 {
     let begin = since(w, t);
-    let mut b = SLOTS;
+    let mut b: usize = 0;
     let mut i = SLOTS;
     while 0 < i {
         i -= 1;
-        if outdoes(ws, i, b, 0, begin) {
-            b = i;
+        let a = 2 + 6 * i;
+        if outdoes(ws, a, b, 0, begin) {
+            b = a;
         }
     }
     b
@@ -304,11 +296,11 @@ pub fn best(ws: &[u64], port: u8, t: u64) -> Asked
     if t < ws[0] {
         return Asked::Refused(Refusal::Backward);
     }
-    let b = best_slot(ws, senders::window(ws[1]), t);
-    if b < SLOTS {
-        return Asked::Found(senders::candidate(load(ws, b), port));
+    let b = best_place(ws, senders::window(ws[1]), t);
+    if b == 0 {
+        return Asked::Absent;
     }
-    Asked::Absent
+    Asked::Found(senders::candidate(read(&ws[b..b + 6]), port))
 }
 
 // Where the record of the best candidate at `t` begins in the port's words, or 0 where there is none.
@@ -316,11 +308,7 @@ pub fn place(ws: &[u64], t: u64) -> usize
     requires { ⌜ length (now ws) ≡ portWords ⌝ }
     ensures { λ r. ⌜ r ≡ placeIn (now (ws .entry)) t ⌝ }
 {
-    let b = best_slot(ws, senders::window(ws[1]), t);
-    if b < SLOTS {
-        return 2 + 6 * b;
-    }
-    0
+    best_place(ws, senders::window(ws[1]), t)
 }
 
 // Whether the record of six words stands before that of six others by the keys that come before the port. Where the

@@ -1,8 +1,9 @@
 -- Single numbers in words.
 use Prim.Native.Nat.{ℕ}
-use lib.Dec.{ltb}
+use lib.Dec.{leb}
 use Rattle.refusal.specs.Choice.{pick}
+use Rattle.refusal.specs.Limits.{portCount}
 
--- the port that a word names: a word that is no octet names none, as 0 does ("port outside 1 to 18"), and is never taken modulo 256
+-- the port that a word names: a word past the last port names none, as 0 does ("port outside 1 to 18"), and is never taken modulo 256
 abbrev pub portOf : ℕ → ℕ
-portOf w = pick (ltb w 256) w 0
+portOf w = pick (leb w portCount) w 0

@@ -21,9 +21,13 @@ pub fn word_of_i16(x: i16) -> u64
     octets::bits64(x as i64)
 }
 
-// The port that a word names. A word that is no octet names no port, as 0 does.
+// The port that a word names, 0 where it is none of 1 to 18.
 pub fn port_of(w: u64) -> u8
     ensures { λ r. ⌜ r ≡ portOf w ⌝ }
 {
-    if w < 256 { w as u8 } else { 0 }
+    if w <= refusal::PORTS as u64 {
+        w as u8
+    } else {
+        0
+    }
 }

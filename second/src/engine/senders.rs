@@ -11,6 +11,9 @@ const SLOT_COUNT: usize = 16;
 const LOG_INTERVALS: std::ops::RangeInclusive<i8> = -3..=4;
 /// Half a second, the window of the shortest interval.
 const SHORTEST_WINDOW: u64 = 500_000_000;
+/// The stepsRemoved from which a clock is too distant to be followed: an
+/// Announce that goes round in a loop of cables gains steps without end.
+const DISTANT_STEPS: u16 = 255;
 
 /// What an Announce tells of its sender, as far as it is kept.
 #[derive(Clone, Copy, Debug, PartialEq, Eq)]
@@ -38,9 +41,21 @@ impl Record {
         time - self.newest <= window
     }
 
-    /// Whether both its receipts lie within the window before a time.
+    /// Whether the record makes a candidate: both its receipts lie within the
+    /// window before a time, and its latest Announce tells of a clock that is
+    /// not distant.
     fn is_qualified(&self, time: u64, window: u64) -> bool {
-        self.older.is_some_and(|older| time - older <= window)
+        let both_recent = self.older.is_some_and(|older| time - older <= window);
+        both_recent && !self.is_distant()
+    }
+
+    /// Whether the latest Announce came from too many steps away: document 02,
+    /// (iii), which amends 01 after IEEE 1588-2008, 9.3.2.5.  Nothing but
+    /// qualification asks this: such a record is live by its newest receipt,
+    /// holds its slot and shifts its receipts like any other.  So it may qualify
+    /// at once when the next Announce comes from fewer steps away.
+    fn is_distant(&self) -> bool {
+        self.announced.steps_removed >= DISTANT_STEPS
     }
 }
 

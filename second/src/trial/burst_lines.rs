@@ -14,9 +14,10 @@ use super::random::Random;
 use super::ranking_lines::shuffled;
 use super::scene_lines::announced;
 use super::settings_lines::fresh_line;
+use super::steps::{any_steps, near_steps, stray_steps};
 use crate::engine::candidate::Candidate;
 use crate::engine::clock::{Clock, Received};
-use crate::engine::message::{PortIdentity, HEADER_SIZE};
+use crate::engine::message::{MessageType, PortIdentity, HEADER_SIZE};
 use crate::engine::octets::u16_at;
 use crate::protocol::answer::answer;
 
@@ -24,6 +25,8 @@ use crate::protocol::answer::answer;
 const PAST_EVERY_WINDOW: u64 = 65_000_000_000;
 /// Where a message's sequenceId stands.
 const SEQUENCE_AT: usize = 30;
+/// Where an Announce's stepsRemoved stands.
+const STEPS_AT: usize = 61;
 
 /// Lines in the making, and the clock they lead to.
 struct Story {
@@ -44,7 +47,7 @@ pub fn burst_lines(random: &mut Random, clock: &Clock) -> Vec<Vec<u8>> {
     let mut messages = burst(random, &mut story.clock.clone());
     story.take(random, &messages);
     if random.chance(1, 6) {
-        messages = next_round(&messages, random.pick(&[0, 1, 1_000, 50_000_000]));
+        messages = next_round(random, &messages);
         story.take(random, &messages);
     }
     story.ask(random, &messages);
@@ -245,9 +248,11 @@ fn house(random: &mut Random, clock: &mut Clock, count: usize) -> Vec<Received> 
 }
 
 /// So many senders of new names on ports in turn.  Now and then half of them
-/// come twice; now and then they are ports of one clock.
+/// come twice; now and then they are ports of one clock; half of the time none
+/// is distant.
 fn strangers(random: &mut Random, ports: &[u8], count: usize) -> Vec<Candidate> {
     let one_clock = random.chance(1, 3);
+    let all_near = random.chance(1, 2);
     let first = new_name(random);
     let different = random.pick(&[count, count, count.div_ceil(2)]);
     let stranger = |number: usize| Candidate {
@@ -260,6 +265,11 @@ fn strangers(random: &mut Random, ports: &[u8], count: usize) -> Vec<Candidate> 
             new_name(random)
         },
         port: ports[number % ports.len()],
+        steps_removed: if all_near {
+            near_steps(random)
+        } else {
+            any_steps(random)
+        },
         ..candidate(random)
     };
     let strangers: Vec<Candidate> = (0..different).map(stranger).collect();
@@ -280,16 +290,32 @@ fn spoken(
     speakers.iter().map(next).collect()
 }
 
-/// The messages of a burst once more, each with the next sequenceId and so much
-/// later.
-fn next_round(burst: &[Received], step: u64) -> Vec<Received> {
+/// The messages of a burst once more, all a little later, each with the next
+/// sequenceId; half of the time some of the Announces stray.
+fn next_round(random: &mut Random, burst: &[Received]) -> Vec<Received> {
+    let step = random.pick(&[0, 1, 1_000, 50_000_000]);
+    let they_stray = random.chance(1, 2);
     let mut round = burst.to_vec();
     for one in &mut round {
         one.time = one.time.saturating_add(step);
         if one.octets.len() >= HEADER_SIZE {
             let sequence = u16_at(&one.octets, SEQUENCE_AT).wrapping_add(1);
-            one.octets[SEQUENCE_AT..SEQUENCE_AT + 2].copy_from_slice(&sequence.to_be_bytes());
+            put_u16(&mut one.octets, SEQUENCE_AT, sequence);
+        }
+        if they_stray && is_announce(&one.octets) && random.chance(1, 4) {
+            put_u16(&mut one.octets, STEPS_AT, stray_steps(random));
         }
     }
     round
+}
+
+/// Whether octets hold an Announce's fields.
+fn is_announce(octets: &[u8]) -> bool {
+    let announce = MessageType::Announce;
+    octets.len() >= announce.fixed_size() && octets[0] & 0x0f == announce.number()
+}
+
+/// Puts a 16-bit number at a place.
+fn put_u16(octets: &mut [u8], at: usize, number: u16) {
+    octets[at..at + 2].copy_from_slice(&number.to_be_bytes());
 }

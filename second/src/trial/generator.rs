@@ -200,6 +200,7 @@ fn refused_to_take(vector: &Vector) -> Option<u8> {
 mod tests {
     use super::*;
     use crate::engine::candidate::PORTS;
+    use crate::engine::senders::Record;
     use crate::trial::calls::{calls_named, CALLS};
     use crate::trial::kinds::answers_in_burst;
 
@@ -256,6 +257,62 @@ mod tests {
         assert_often(&walk, 100, &["ok 0", "ok 1 44 ", "ok 2 ", "ok 6 "]);
     }
 
+    /// Every slot of a clock.
+    fn slots(clock: &Clock) -> Vec<Option<Record>> {
+        PORTS
+            .flat_map(|port| clock.senders(port).unwrap().slots)
+            .collect()
+    }
+
+    /// The steps of a record before and after an Announce of its sender, where
+    /// that shifted the receipts.
+    fn steps_moved(before: &Option<Record>, after: &Option<Record>) -> Option<(u16, u16)> {
+        let (before, after) = (before.as_ref()?, after.as_ref()?);
+        let is_shifted = before.announced.sender == after.announced.sender
+            && before.announced.sequence != after.announced.sequence
+            && after.older == Some(before.newest);
+        is_shifted.then_some((
+            before.announced.steps_removed,
+            after.announced.steps_removed,
+        ))
+    }
+
+    /// The steps before and after each Announce, among so many lines of some
+    /// calls, that shifted its sender's receipts.
+    fn moves_of_steps(calls: &str, lines: usize) -> Vec<(u16, u16)> {
+        let mut generator = Generator::new(calls_named(calls).unwrap(), 7);
+        let mut moves = Vec::new();
+        for _ in 0..lines {
+            let before = slots(&generator.clock);
+            generator.next_vector();
+            let after = slots(&generator.clock);
+            let moved = before.iter().zip(&after);
+            moves.extend(moved.filter_map(|(before, after)| steps_moved(before, after)));
+        }
+        moves
+    }
+
+    #[test]
+    fn steps_on_both_sides_of_255_come_often_and_change() {
+        for calls in ["take,candidates,records", "best,all", "burst"] {
+            let moves = moves_of_steps(calls, 20_000);
+            for distant in [255, 256, 65_535] {
+                let gone = moves
+                    .iter()
+                    .filter(|(from, to)| *from < 255 && *to == distant);
+                let back = moves
+                    .iter()
+                    .filter(|(from, to)| *from == distant && *to < 255);
+                let (gone, back) = (gone.count(), back.count());
+                assert!(gone >= 25 && back >= 25, "{calls} {distant} {gone} {back}");
+            }
+            for edge in [(254, 255), (255, 254), (253, 255), (255, 253)] {
+                let crossed = moves.iter().filter(|steps| **steps == edge).count();
+                assert!(crossed >= 5, "{calls} {edge:?} {crossed}");
+            }
+        }
+    }
+
     /// The messages of a line of `burst`, each as a line of `take`.
     fn lines_in_burst(line: &[u8]) -> Vec<Vec<u8>> {
         let words: Vec<&[u8]> = line.split(|&c| c == b' ').collect();
@@ -300,7 +357,7 @@ mod tests {
 
     #[test]
     fn bursts_of_every_size_with_every_refusal_come_often() {
-        let bursts = bursts(8000);
+        let bursts = bursts(12_000);
         for (count, begin, least) in [
             (0, "ok 0", 50),
             (1, "ok 1 ", 100),

@@ -7,9 +7,10 @@ use super::call_line::CallLine;
 use super::candidates::{port, quality, FOREIGN_PORTS};
 use super::messages::{self, Draft};
 use super::random::Random;
+use super::steps::any_steps;
 use super::values;
 use crate::engine::clock::{Clock, Received};
-use crate::engine::message::{Announce, Body, Header, MessageType, PortIdentity, LISTED_TYPES};
+use crate::engine::message::{Announce, Body, Header, PortIdentity, LISTED_TYPES};
 use crate::engine::senders::{Record, Senders};
 
 /// Lines of `take`: mostly one, now and then a flood of new names.
@@ -247,23 +248,22 @@ pub fn announcement(random: &mut Random, clock: &Clock, senders: &Senders) -> Dr
 
 /// An Announce's body, mostly of few values so that candidates meet.
 fn announce_body(random: &mut Random) -> Body {
-    let any = messages::body(random, MessageType::Announce);
-    let Body::Announce(stamp, fields) = any else {
-        return any;
+    let mut fields = Announce {
+        steps_removed: any_steps(random),
+        ..messages::announce(random)
     };
-    if random.chance(1, 4) {
-        return any;
+    if random.chance(3, 4) {
+        let quality = quality(random);
+        fields = Announce {
+            priority1: quality.priority1,
+            class: quality.class,
+            accuracy: quality.accuracy,
+            variance: quality.variance,
+            priority2: quality.priority2,
+            ..fields
+        };
     }
-    let quality = quality(random);
-    let fields = Announce {
-        priority1: quality.priority1,
-        class: quality.class,
-        accuracy: quality.accuracy,
-        variance: quality.variance,
-        priority2: quality.priority2,
-        ..fields
-    };
-    Body::Announce(stamp, fields)
+    Body::Announce(values::timestamp(random), fields)
 }
 
 /// The sender: mostly one that has a record, else one of a few, a new one, or

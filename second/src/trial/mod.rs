@@ -23,6 +23,7 @@ pub mod ranking_lines;
 pub mod reading_lines;
 pub mod scene_lines;
 pub mod settings_lines;
+pub mod steps;
 pub mod tails;
 pub mod values;
 pub mod writing_lines;

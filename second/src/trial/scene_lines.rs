@@ -12,6 +12,7 @@ use super::messages::{self, Draft};
 use super::question_lines::{all_line, best_line, heard_ports, latest_time};
 use super::random::Random;
 use super::settings_lines as settings;
+use super::steps::{any_steps, scene_steps, stray_steps};
 use super::values;
 use crate::engine::candidate::{Candidate, Quality};
 use crate::engine::clock::{Clock, Received};
@@ -72,7 +73,8 @@ pub fn later_line(random: &mut Random, clock: &Clock) -> Option<Vec<u8>> {
     let mut speaker = candidate_of(&record.announced, port);
     match random.below(6) {
         0 => speaker.steps_removed = change_steps(random, speaker.steps_removed),
-        1 => change_quality(random, &mut speaker.quality),
+        1 => speaker.steps_removed = any_steps(random),
+        2 => change_quality(random, &mut speaker.quality),
         _ => {}
     }
     let time = later(random, latest_time(clock), 20_000_000);
@@ -109,11 +111,13 @@ impl Scene {
     }
 
     /// Lets the senders speak in two or three rounds; now and then one is not
-    /// heard.
+    /// heard.  In some scenes they stray: an Announce may tell other steps than
+    /// the sender's others.
     fn let_speak(&mut self, random: &mut Random, speakers: &[Candidate]) {
         let pace = random.pick(&[0, 1, 1_000, 1_000_000, 10_000_000, 40_000_000]);
         let mut time = start_time(random, &self.clock);
         let rounds = random.pick(&[2, 2, 2, 3]);
+        let they_stray = random.chance(1, 3);
         for _ in 0..rounds {
             let mut burst = Vec::new();
             for speaker in speakers {
@@ -121,7 +125,11 @@ impl Scene {
                     continue;
                 }
                 time = later(random, time, pace);
-                let received = announced(random, &self.clock, speaker, time);
+                let mut speaker = *speaker;
+                if they_stray && random.chance(1, 4) {
+                    speaker.steps_removed = stray_steps(random);
+                }
+                let received = announced(random, &self.clock, &speaker, time);
                 if self.in_bursts {
                     burst.push(heard(&mut self.clock, received));
                 } else {
@@ -171,7 +179,7 @@ impl Scene {
 fn base(random: &mut Random) -> Candidate {
     Candidate {
         quality: quality(random),
-        steps_removed: random.pick(&[0, 0, 1, 1, 2, 253, 254, 255, 65_534, 65_535]),
+        steps_removed: scene_steps(random),
         ..candidate(random)
     }
 }

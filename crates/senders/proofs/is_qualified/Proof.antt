@@ -1,10 +1,27 @@
--- `is_qualified` meets its contract: `age` is the difference of the definition.
+-- `is_qualified` meets its contract: `age` is the difference of the definition, and the three tests may come in any order.
+use mathlib.Core.Path.{_≡_, refl}
+use mathlib.Core.Bool.{Bool, true, false, not, _&&_}
+use lib.Dec.{leb}
 use borrow.Author.Needs.{needs}
 use Rattle.senders.proofs.is_qualified.Statement.{statement}
 use Rattle.senders.proofs.is_qualified.Tie as tie
 
+turned : (a b c : Bool) → ((c && b) && a) ≡ ((a && b) && c)
+turned true true true = refl
+turned true true false = refl
+turned true false true = refl
+turned true false false = refl
+turned false true true = refl
+turned false true false = refl
+turned false false true = refl
+turned false false false = refl
+
 returns : tie.Need-returns
-returns c = rw (← c .age .ensures)
+returns c =
+    let a = c .before in
+    let d = a .before in
+    let g = d .before .before .args in
+    rw (← a .age .ensures, ← d .is-distant .ensures) (turned (leb 2 (g .r .receipts)) (leb (a .age .result) (g .w)) (not (d .is-distant .result)))
 
 pub is-qualified-spec : {M : Type 1} → statement M
-is-qualified-spec = tie.close (tie.spec (λ c κs. search needs) returns)
+is-qualified-spec = tie.close (tie.spec (λ c κs. search needs) (λ c κs. search needs) returns)
