@@ -1,13 +1,15 @@
 -- `sink` meets its contract: the slots gone through, then what comes of sinking the one that goes on into the others,
 -- is what comes of sinking the candidate into the list.
-use Prim.Native.Nat.{_-_}
+use Prim.Native.Nat.{ℕ, _-_}
 use mathlib.Core.Path.{_≡_, refl, sym, ap, _∙_}
 use native.Mathlib.Omega.{arith}
 use borrow.Author.Needs.{needs}
 use borrow.Author.Tests.{eq-eqb, ne-eqb}
+use mathlib.Core.Bool.{Bool}
 use mathlib.Core.List.{List}
 use lib.ListN.{length, take, set, getD, length-map}
 use lib.Seq.{set-getD}
+use Rattle.refusal.specs.Choice.{pick}
 use Rattle.rank.specs.declared.Candidate.{Candidate}
 use Rattle.rank.specs.Order.{earlierOf}
 use Rattle.rank.specs.Best.{sink}
@@ -36,6 +38,13 @@ loop-holds c =
       rest = refl;
     }
 
+-- which stays and which goes on, by what `earlier` told; `simp` of the told fact inside `turned` is far dearer
+stayed : (slots : List Candidate) (i : ℕ) (x y : Candidate) {b : Bool} → earlierOf x y ≡ b → set slots i (pick b x y) ≡ set slots i (stays x y)
+stayed slots i x y e = ap (λ (t : Bool). set slots i (pick t x y)) (sym e)
+
+went : (x y : Candidate) {b : Bool} → earlierOf x y ≡ b → pick b y x ≡ goes x y
+went x y e = ap (λ (t : Bool). pick t y x) (sym e)
+
 -- after the swap: the earlier of the two stays, the other goes on
 turned : (c : tie.Joined1 Inv-loop μ-loop)
     → let l = c .before .before .before .before .loop in
@@ -43,10 +52,11 @@ turned : (c : tie.Joined1 Inv-loop μ-loop)
     (c .if1 .slots ≡ set (l .slots) (l .i) (stays (l .x) y)) × (c .if1 .x ≡ goes (l .x) y)
 turned c =
     let l = c .before .before .before .before .loop in
+    let y = getD (l .slots) (l .i) blankOf in
     let told = sym (c .before .earlier .ensures) in
     either (c .if1 .came)
-    (λ w. let e = told ∙ w .0 .taken in (simp e (w .1), simp e (w .2)))
-    (λ w. let e = told ∙ w .0 .left in (simp e (w .1 ∙ sym (set-getD (l .slots) (l .i) blankOf)), simp e (w .2)))
+    (λ w. let e = told ∙ w .0 .taken in (w .1 ∙ stayed (l .slots) (l .i) (l .x) y e, w .2 ∙ went (l .x) y e))
+    (λ w. let e = told ∙ w .0 .left in (w .1 ∙ sym (set-getD (l .slots) (l .i) blankOf) ∙ stayed (l .slots) (l .i) (l .x) y e, w .2 ∙ went (l .x) y e))
 
 returns : tie.Need-returns Inv-loop μ-loop
 returns c =
