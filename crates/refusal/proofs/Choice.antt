@@ -40,6 +40,16 @@ module _ {A : Type 0} (x rest : A) where
   unfolding refuse
   goes-on t e = rw e
 
+-- what an ordered list of checks gives, check by check: this one stops, or it passes and those below give r. A function's answer
+-- is cheaper to check by these two than by `rw` with all the tests at once.
+pub stops : {A : Type 0} {t : Bool} {x : A} (rest : A) → t ≡ true → x ≡ refuse t x rest
+unfolding refuse
+stops rest e = rw e
+
+pub passes : {A : Type 0} {t : Bool} {rest r : A} (x : A) → t ≡ false → r ≡ rest → r ≡ refuse t x rest
+unfolding refuse
+passes x e p = rw e p
+
 -- a check that was looked at as b: it refuses, or what follows it answers
 module _ {A : Type 0} (t b : Bool) (e : b ≡ t) (x y : A) where
   pub is-refused : not b ≡ true → x ≡ refuse (not t) x y

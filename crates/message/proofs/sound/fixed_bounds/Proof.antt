@@ -1,9 +1,10 @@
 -- `sound::fixed_bounds` meets its contract: at each way out the tests before it are known.
 use Prim.Native.Nat.{_≤_}
-use mathlib.Core.Path.{_≡_}
+use mathlib.Core.Bool.{not}
+use mathlib.Core.Path.{_≡_, sym, ap, _∙_}
 use native.Mathlib.Omega.{arith}
 use borrow.Author.Tests.{lt-ltb, le-ltb, eq-eqb, ne-eqb}
-use Rattle.refusal.specs.Choice.{refuse}
+use Rattle.refusal.proofs.Choice.{stops, passes}
 use Rattle.message.specs.Sound.{fixedBounds}
 use Rattle.message.proofs.Laws.{size-least}
 use borrow.Author.Needs.{needs}
@@ -11,38 +12,47 @@ use Rattle.message.proofs.sound.fixed_bounds.Statement.{statement}
 use Rattle.message.proofs.sound.fixed_bounds.Tie as tie
 
 returns : tie.Need-returns
-unfolding fixedBounds refuse
-returns c = rw (lt-ltb _ _ (c .if1 .taken))
+unfolding fixedBounds
+returns c = stops _ (lt-ltb _ _ (c .if1 .taken))
 
 returns-2 : tie.Need-returns-2
-unfolding fixedBounds refuse
-returns-2 c = rw (le-ltb _ _ (c .before .before .if1 .left), ne-eqb _ _ (c .if2 .taken))
+unfolding fixedBounds
+returns-2 c = passes _ (le-ltb _ _ (c .before .before .if1 .left)) (stops _ (ap not (ne-eqb _ _ (c .if2 .taken))))
 
 returns-3 : tie.Need-returns-3
-unfolding fixedBounds refuse
+unfolding fixedBounds
 returns-3 c =
     let k = c .before in
     let e2 = k .before .before in
-    rw (le-ltb _ _ (e2 .before .before .if1 .left), eq-eqb _ _ (e2 .if2 .left), ← k .fixed-size .ensures, eq-eqb _ _ (c .if3 .taken))
+    passes _ (le-ltb _ _ (e2 .before .before .if1 .left))
+    (passes _ (ap not (eq-eqb _ _ (e2 .if2 .left)))
+    (stops _ (rw (← k .fixed-size .ensures) (eq-eqb _ _ (c .if3 .taken)))))
 
 returns-4 : tie.Need-returns-4
-unfolding fixedBounds refuse
+unfolding fixedBounds
 returns-4 c =
     let n = c .before in
     let e3 = n .before in
     let k = e3 .before in
     let e2 = k .before .before in
-    rw (le-ltb _ _ (e2 .before .before .if1 .left), eq-eqb _ _ (e2 .if2 .left), ← k .fixed-size .ensures, ne-eqb _ _ (e3 .if3 .left), ← n .u16-at .ensures, lt-ltb _ _ (c .if4 .taken))
+    passes _ (le-ltb _ _ (e2 .before .before .if1 .left))
+    (passes _ (ap not (eq-eqb _ _ (e2 .if2 .left)))
+    (passes _ (rw (← k .fixed-size .ensures) (ne-eqb _ _ (e3 .if3 .left)))
+    (stops _ (rw (← k .fixed-size .ensures, ← n .u16-at .ensures) (lt-ltb _ _ (c .if4 .taken))))))
 
 returns-5 : tie.Need-returns-5
-unfolding fixedBounds refuse
+unfolding fixedBounds
 returns-5 c =
     let e4 = c .before in
     let n = e4 .before in
     let e3 = n .before in
     let k = e3 .before in
     let e2 = k .before .before in
-    rw (le-ltb _ _ (e2 .before .before .if1 .left), eq-eqb _ _ (e2 .if2 .left), ← k .fixed-size .ensures, ne-eqb _ _ (e3 .if3 .left), ← n .u16-at .ensures, le-ltb _ _ (e4 .if4 .left), lt-ltb _ _ (c .if5 .taken))
+    passes _ (le-ltb _ _ (e2 .before .before .if1 .left))
+    (passes _ (ap not (eq-eqb _ _ (e2 .if2 .left)))
+    (passes _ (rw (← k .fixed-size .ensures) (ne-eqb _ _ (e3 .if3 .left)))
+    (passes _ (rw (← k .fixed-size .ensures, ← n .u16-at .ensures) (le-ltb _ _ (e4 .if4 .left)))
+    (stops _ (rw (← n .u16-at .ensures) (lt-ltb _ _ (c .if5 .taken)))))))
 
 bad-stamp-requires : tie.Need-bad-stamp-requires
 bad-stamp-requires c κs =
@@ -52,7 +62,7 @@ bad-stamp-requires c κs =
     omega (arith, h, k .fixed-size .ensures)
 
 returns-6 : tie.Need-returns-6
-unfolding fixedBounds refuse
+unfolding fixedBounds
 returns-6 c =
     let b = c .before in
     let e5 = b .before in
@@ -61,10 +71,15 @@ returns-6 c =
     let e3 = n .before in
     let k = e3 .before in
     let e2 = k .before .before in
-    rw (le-ltb _ _ (e2 .before .before .if1 .left), eq-eqb _ _ (e2 .if2 .left), ← k .fixed-size .ensures, ne-eqb _ _ (e3 .if3 .left), ← n .u16-at .ensures, le-ltb _ _ (e4 .if4 .left), le-ltb _ _ (e5 .if5 .left), ← b .bad-stamp .ensures, c .if6 .taken)
+    passes _ (le-ltb _ _ (e2 .before .before .if1 .left))
+    (passes _ (ap not (eq-eqb _ _ (e2 .if2 .left)))
+    (passes _ (rw (← k .fixed-size .ensures) (ne-eqb _ _ (e3 .if3 .left)))
+    (passes _ (rw (← k .fixed-size .ensures, ← n .u16-at .ensures) (le-ltb _ _ (e4 .if4 .left)))
+    (passes _ (rw (← n .u16-at .ensures) (le-ltb _ _ (e5 .if5 .left)))
+    (stops _ (sym (b .bad-stamp .ensures) ∙ c .if6 .taken))))))
 
 returns-7 : tie.Need-returns-7
-unfolding fixedBounds refuse
+unfolding fixedBounds
 returns-7 c =
     let b = c .before in
     let e5 = b .before in
@@ -73,7 +88,13 @@ returns-7 c =
     let e3 = n .before in
     let k = e3 .before in
     let e2 = k .before .before in
-    rw (le-ltb _ _ (e2 .before .before .if1 .left), eq-eqb _ _ (e2 .if2 .left), ← k .fixed-size .ensures, ne-eqb _ _ (e3 .if3 .left), ← n .u16-at .ensures, le-ltb _ _ (e4 .if4 .left), le-ltb _ _ (e5 .if5 .left), ← b .bad-stamp .ensures, c .if6 .left)
+    passes _ (le-ltb _ _ (e2 .before .before .if1 .left))
+    (passes _ (ap not (eq-eqb _ _ (e2 .if2 .left)))
+    (passes _ (rw (← k .fixed-size .ensures) (ne-eqb _ _ (e3 .if3 .left)))
+    (passes _ (rw (← k .fixed-size .ensures, ← n .u16-at .ensures) (le-ltb _ _ (e4 .if4 .left)))
+    (passes _ (rw (← n .u16-at .ensures) (le-ltb _ _ (e5 .if5 .left)))
+    (passes _ (sym (b .bad-stamp .ensures) ∙ c .if6 .left)
+    (λ i. record { size = k .fixed-size .ensures i; length = n .u16-at .ensures i }))))))
 
 pub fixed-bounds-spec : {M : Type 1} → statement M
 fixed-bounds-spec =
