@@ -8,20 +8,20 @@ use Rattle.decide.proofs.even.Tie as tie
 
 returns : tie.Need-returns
 unfolding evenOf
-returns c = simp (sym (c .before .precedes .ensures) ∙ c .if1 .taken)
+returns c = rw (sym (c .before .precedes .ensures) ∙ c .if1 .taken)
 
 returns-2 : tie.Need-returns-2
 unfolding evenOf
 returns-2 c =
     let e1 = c .before .before in
-    simp (sym (e1 .before .precedes .ensures) ∙ e1 .if1 .left, sym (c .before .precedes2 .ensures) ∙ c .if2 .taken)
+    rw (sym (e1 .before .precedes .ensures) ∙ e1 .if1 .left, sym (c .before .precedes2 .ensures) ∙ c .if2 .taken)
 
 returns-3 : tie.Need-returns-3
 unfolding evenOf
 returns-3 c =
     let e2 = c .before .before .before .before .before in
     let e1 = e2 .before .before in
-    simp (
+    rw (
       sym (e1 .before .precedes .ensures) ∙ e1 .if1 .left,
       sym (e2 .before .precedes2 .ensures) ∙ e2 .if2 .left,
       lt-ltb _ _ (c .if3 .taken),
@@ -33,7 +33,7 @@ returns-4 c =
     let e3 = c .before .before .before in
     let e2 = e3 .before .before .before .before .before in
     let e1 = e2 .before .before in
-    simp (
+    rw (
       sym (e1 .before .precedes .ensures) ∙ e1 .if1 .left,
       sym (e2 .before .precedes2 .ensures) ∙ e2 .if2 .left,
       le-ltb _ _ (e3 .if3 .left),
@@ -46,7 +46,7 @@ returns-5 c =
     let e3 = c .before .before .before in
     let e2 = e3 .before .before .before .before .before in
     let e1 = e2 .before .before in
-    simp (
+    rw (
       sym (e1 .before .precedes .ensures) ∙ e1 .if1 .left,
       sym (e2 .before .precedes2 .ensures) ∙ e2 .if2 .left,
       le-ltb _ _ (e3 .if3 .left),

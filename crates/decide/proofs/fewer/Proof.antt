@@ -12,14 +12,14 @@ returns : tie.Need-returns
 unfolding fewerOf
 returns c =
     let s = c .before .before .before .args in
-    simp (le-leb (s .a .steps + 2) (s .b .steps) (omega arith))
+    rw (le-leb (s .a .steps + 2) (s .b .steps) (omega (arith, c .if1 .taken)))
 
 returns-2 : tie.Need-returns-2
 unfolding fewerOf
 returns-2 c =
     let e1 = c .before .before .before .before in
     let s = e1 .before .before .before .args in
-    simp (lt-leb (s .a .steps + 2) (s .b .steps) (omega arith), sym (c .before .precedes .ensures) ∙ c .if2 .taken)
+    rw (lt-leb (s .a .steps + 2) (s .b .steps) (omega (arith, e1 .if1 .left)), sym (c .before .precedes .ensures) ∙ c .if2 .taken)
 
 returns-3 : tie.Need-returns-3
 unfolding fewerOf
@@ -27,7 +27,7 @@ returns-3 c =
     let e2 = c .before .before in
     let e1 = e2 .before .before .before .before in
     let s = e1 .before .before .before .args in
-    simp (
+    rw (
       lt-leb (s .a .steps + 2) (s .b .steps) (omega (arith, e1 .if1 .left)),
       sym (e2 .before .precedes .ensures) ∙ e2 .if2 .left,
       sym (c .before .precedes2 .ensures) ∙ c .if3 .taken,
@@ -39,7 +39,7 @@ returns-4 c =
     let e2 = c .before .before in
     let e1 = e2 .before .before .before .before in
     let s = e1 .before .before .before .args in
-    simp (
+    rw (
       lt-leb (s .a .steps + 2) (s .b .steps) (omega (arith, e1 .if1 .left)),
       sym (e2 .before .precedes .ensures) ∙ e2 .if2 .left,
       sym (c .before .precedes2 .ensures) ∙ c .if3 .left,
