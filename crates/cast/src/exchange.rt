@@ -3,7 +3,7 @@
 // are the engine's.
 use crate::MAGIC;
 use crate::OURS;
-use crate::header;
+use crate::sender;
 use crate::written;
 use delay::Asymmetry;
 use delay::Corrections;
@@ -16,9 +16,6 @@ use delay::ScaledNs;
 use delay::ScaledPs;
 use delay::Stamp;
 use delay::Stamps;
-use message::fields::Body;
-use message::fields::Message;
-use message::fields::Timestamp;
 use page::tally;
 use page::tally::COUNTS;
 
@@ -52,9 +49,6 @@ const T4: u32 = (HALF + SLAVE_TX + FIBRE + MASTER_RX) as u32;
 // A nanosecond in picoseconds times 2^16.
 const LATENCY: u64 = 1000 * SCALE;
 
-// The two-step bit, of octet 6.
-const TWO_STEP: u16 = 0x0200;
-
 // A time of our clock that would be `scaled` if it were not off, in nanoseconds times 2^16: half as much each hour, and anew with each master. It
 // is ahead of the first and behind the second.
 fn shown(scaled: u64, hour: u64) -> u64 {
@@ -66,30 +60,19 @@ fn shown(scaled: u64, hour: u64) -> u64 {
     }
 }
 
-// A message of a master's, written.
-fn stamped(clock: u64, sequence: u16, flags: u16, body: Body) -> [u8; 44] {
-    let m = Message {
-        header: header(clock, sequence, flags),
-        body,
-    };
-    let mut out = [0u8; 44];
-    written(&mut out, m, b"");
-    out
+// A Sync or a Follow_Up of a master, by what it begins with and by controlField, logMessageInterval and seconds: 44 octets.
+fn stamped(begin: u64, master: u64, sequence: u16, seconds: u64) -> [u8; 80] {
+    let clock = master / 0x1_0000_0000;
+    let second = sender(master, sequence);
+    written([begin, 0, clock, second, seconds, 0, 0, 0, 0, 0])
 }
 
-// t1 of the hour, from the Follow_Up of a two-step Sync.
+// t1 of the hour, from the Follow_Up of a two-step Sync, whose own timestamp is 0.
 fn origin_time(master: u64, h: u64) -> Stamp {
     let n = (h % 24) as u16;
-    let early = Timestamp {
-        seconds: 0,
-        nanoseconds: 0,
-    };
-    let precise = Timestamp {
-        seconds: h % 24 * 3600,
-        nanoseconds: 0,
-    };
-    let sync = stamped(master, n, TWO_STEP, Body::Sync(early));
-    let follow = stamped(master, n, 0, Body::FollowUp(precise));
+    let precise = 0x0201_0000_0000_0000 + h % 24 * 3600;
+    let sync = stamped(0x0002_002c_0000_0200, master, n, 0x0001_0000_0000_0000);
+    let follow = stamped(0x0802_002c_0000_0000, master, n, precise);
     let part = origin::origin(&sync, &follow, MAGIC);
     Stamp {
         seconds: octets::u48_at(part, 0),

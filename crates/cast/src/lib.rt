@@ -1,18 +1,11 @@
 // Who is heard on the day that the program `day` tells: two masters, a boundary clock, a tenant's own clock, a looped cable, tenants
-// with endless new names, and two clocks of a tenant that follow each other. Each writes its Announces with the engine's own writer,
+// with endless new names, and two clocks of a tenant that follow each other. Their messages are made here as they stand on the wire,
 // and the clock takes them from the octets. Beside it the slave port's exchange. All of it is made up, so there is nothing that a
 // contract could hold it to: its functions are proved to end and to stay in bounds.
-use message::fields::Announce;
-use message::fields::Body;
-use message::fields::Header;
-use message::fields::Message;
-use message::fields::PortIdentity;
-use message::fields::Timestamp;
 use page::tally;
 use page::tally::COUNTS;
 use ports::intake::Settings;
 use rank::Grandmaster;
-use writer::writing::Written;
 
 pub mod exchange;
 
@@ -42,8 +35,10 @@ const SILENCE: u64 = 13 * 3600;
 // Seconds from one Announce of a sender to its next; every port's interval is set to it.
 pub const BEAT: u64 = 2;
 
-// The octets of a White Rabbit suffix.
-const SUFFIX: usize = 14;
+// The octets of an Announce, and of a White Rabbit suffix.
+const ANNOUNCE: u64 = 64;
+
+const SUFFIX: u64 = 14;
 
 // priority2 of the two masters, which are on satellite time, and of a clock that runs free.
 const BETTER: u8 = 10;
@@ -70,32 +65,25 @@ fn settings() -> Settings {
     }
 }
 
-// A clock's quality, by its identity and priority2.
-fn quality(identity: u64, priority2: u8) -> Grandmaster {
-    if priority2 == FREE {
-        Grandmaster {
-            priority1: 128,
-            class: 248,
-            accuracy: 254,
-            variance: 65535,
-            priority2,
-            identity,
-        }
-    } else {
-        Grandmaster {
-            priority1: 128,
-            class: 6,
-            accuracy: 33,
-            variance: 20061,
-            priority2,
-            identity,
-        }
+// Our own quality: a clock that leads only where nobody better is heard.
+pub fn own() -> Grandmaster {
+    Grandmaster {
+        priority1: 128,
+        class: 248,
+        accuracy: 254,
+        variance: 65535,
+        priority2: FREE,
+        identity: OURS,
     }
 }
 
-// Our own: a clock that leads only where nobody better is heard.
-pub fn own() -> Grandmaster {
-    quality(OURS, FREE)
+// Class, accuracy, variance and priority2 in five octets: those of a clock on satellite time, or of one that runs free.
+fn grade(priority2: u8) -> u64 {
+    if priority2 == FREE {
+        0xf8_fe_ffff_80
+    } else {
+        0x06_21_4e5d_00 + priority2 as u64
+    }
 }
 
 // Whether the first master is there.
@@ -145,62 +133,54 @@ fn who(k: u64, second: u64) -> Speaker {
     }
 }
 
-// What every message of a sender begins with.
-fn header(clock: u64, sequence: u16, flags: u16) -> Header {
-    Header {
-        transport: 0,
-        domain: 0,
-        flags,
-        correction: 0,
-        source: PortIdentity { clock, port: 1 },
-        sequence,
-        interval: 1,
-    }
+// A message is made of numbers of eight octets: type, length, domain and flags; the correction; the first half of the sender's clock; these;
+// controlField, logMessageInterval and the body. Here are the second half of the clock, its port 1, and sequenceId.
+fn sender(clock: u64, sequence: u16) -> u64 {
+    clock % 0x1_0000_0000 * 0x1_0000_0000 + 0x1_0000 + sequence as u64
 }
 
-// A message, written into a lent buffer: how many octets it has, none where the writer refuses it.
-fn written(out: &mut [u8], m: Message, tail: &[u8]) -> usize {
-    match writer::writing::write(out, m, tail, MAGIC) {
-        Written::Octets(n) => n,
-        Written::Refused(_) => 0,
+// Its octets.
+fn written(eights: [u64; 10]) -> [u8; 80] {
+    let mut out = [0u8; 80];
+    let mut i: usize = 0;
+    while i < 80 {
+        out[i] = ((eights[i / 8] >> (7 - i % 8) * 8) % 256) as u8;
+        i += 1;
     }
+    out
 }
 
-// A sender's Announce.
-fn announce(s: Speaker, sequence: u16) -> Message {
-    let g = quality(s.identity, s.priority2);
-    Message {
-        header: header(s.clock, sequence, 8),
-        body: Body::Announce(Announce {
-            origin: Timestamp {
-                seconds: 0,
-                nanoseconds: 0,
-            },
-            utc: 37,
-            priority1: g.priority1,
-            class: g.class,
-            accuracy: g.accuracy,
-            variance: g.variance,
-            priority2: g.priority2,
-            grandmaster: g.identity,
-            steps: s.steps,
-            timesource: 0x20,
-        }),
-    }
+// A sender's Announce, of so many octets: currentUtcOffset 37, priority1 128, timeSource 0x20. Behind its 64 octets stands a White Rabbit
+// suffix: type 3 with 10 octets, the OUI and MAGIC, version 1, 0x2000, and as wrFlags config 1, calibrated.
+fn announce(s: Speaker, sequence: u16, length: u64) -> [u8; 80] {
+    written([
+        0x0b02_0000_0000_0008 + length % 256 * 0x1_0000_0000,
+        0,
+        s.clock / 0x1_0000_0000,
+        sender(s.clock, sequence),
+        0x0501_0000_0000_0000,
+        0x0000_0000_0025_0080,
+        grade(s.priority2) % 0x100_0000_0000 * 0x100_0000
+            + s.identity / 0x100_0000_0000 % 0x100_0000,
+        s.identity % 0x100_0000_0000 * 0x100_0000 + s.steps as u64 * 256 + 0x20,
+        0x0003_000a_0800_30ab,
+        0xcd01_2000_0005_0000,
+    ])
 }
 
-// One Announce, taken at `t` nanoseconds from the octets that its sender wrote, and what became of it.
+// One Announce with so many octets of a tail, taken at `t` nanoseconds from the octets that its sender wrote, and what became of it.
 fn heard(
     words: &mut [u64; ports::WORDS],
     counts: &mut [u64; COUNTS],
     t: u64,
     s: Speaker,
     sequence: u16,
-    tail: &[u8],
+    tail: u64,
 ) {
-    let mut sent = [0u8; 78];
-    let n = written(&mut sent, announce(s, sequence), tail);
-    let x = ports::intake::take(words, s.port, t, page::front(&sent, n), settings());
+    let length = ANNOUNCE + tail % 16;
+    let sent = announce(s, sequence, length);
+    let octets = page::front(&sent, length as usize);
+    let x = ports::intake::take(words, s.port, t, octets, settings());
     tally::note(counts, s.port, x);
 }
 
@@ -224,20 +204,17 @@ pub fn set_intervals(words: &mut [u64; ports::WORDS]) {
 }
 
 // What every even second brings: an Announce of each of those that are there. The first two are masters, and send the White Rabbit
-// suffix behind it, as it stands on the wire: type 3 with 10 octets, the OUI and MAGIC, version 1, 0x2000, and as wrFlags config 1,
-// calibrated.
+// suffix behind it.
 pub fn beat(words: &mut [u64; ports::WORDS], counts: &mut [u64; COUNTS], second: u64) {
-    let suffix = b"\x00\x03\x00\x0a\x08\x00\x30\xab\xcd\x01\x20\x00\x00\x05";
     let mut k: u64 = !is_first(second) as u64 % 2;
     while k < 4 {
-        let tail = page::front(suffix, (1 - k / 2) as usize * SUFFIX);
         heard(
             words,
             counts,
             instant(second),
             who(k, second),
             number(second),
-            tail,
+            (1 - k / 2) * SUFFIX,
         );
         k += 1;
     }
@@ -264,7 +241,7 @@ const CABLE: u8 = 9;
 fn looped(words: &mut [u64; ports::WORDS], counts: &mut [u64; COUNTS], second: u64) {
     let t = instant(second);
     let s = leading(OURS, CABLE, FREE);
-    heard(words, counts, t, s, number(second), b"");
+    heard(words, counts, t, s, number(second), 0);
     if second % 3600 == LOOPED - BEAT {
         tried(
             counts,
@@ -311,7 +288,7 @@ fn flood(words: &mut [u64; ports::WORDS], counts: &mut [u64; COUNTS], port: u8, 
     let mut j: u64 = 0;
     while j < 2 * NAMES {
         let s = leading(std::num::wrapping_add_u64(from, j / 2), port, FREE);
-        heard(words, counts, spoken(second, j), s, (j % 2 + 1) as u16, b"");
+        heard(words, counts, spoken(second, j), s, (j % 2 + 1) as u16, 0);
         j += 1;
     }
 }
@@ -381,7 +358,7 @@ fn echoed(words: &mut [u64; ports::WORDS], counts: &mut [u64; COUNTS], second: u
         priority2: BETTER,
         steps,
     };
-    heard(words, counts, t, s, number(second), b"");
+    heard(words, counts, t, s, number(second), 0);
     loop_told(counts, t, steps);
 }
 

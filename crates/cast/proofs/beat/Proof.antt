@@ -5,10 +5,10 @@ use Rattle.cast.proofs.beat.Statement.{statement}
 use Rattle.cast.proofs.beat.Tie as tie
 
 abbrev Inv-loop : tie.InvT-loop
-Inv-loop words₀ counts₀ second suffix k₀ words counts k = (k ≤ 4)
+Inv-loop words₀ counts₀ second k₀ words counts k = (k ≤ 4)
 
 abbrev μ-loop : tie.MeasureT-loop
-μ-loop words₀ counts₀ second suffix k₀ words counts k = 4 - k
+μ-loop words₀ counts₀ second k₀ words counts k = 4 - k
 
 pub beat-spec : {M : Type 1} → statement M
 beat-spec =
@@ -19,12 +19,11 @@ beat-spec =
     (λ c κs. search needs)
     (λ c. search needs)
     (λ c. search needs)
+    (λ c κs. search needs)
+    (λ c κs. search needs)
+    (λ c κs. search needs)
     (λ c. search needs)
     (λ c. search needs)
-    (λ c κs. search needs)
-    (λ c κs. search needs)
-    (λ c κs. search needs)
-    (λ c κs. search needs)
     (λ c κs. search needs)
     (λ c. search needs)
     (λ c. search needs)

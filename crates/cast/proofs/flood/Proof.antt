@@ -5,10 +5,10 @@ use Rattle.cast.proofs.flood.Statement.{statement}
 use Rattle.cast.proofs.flood.Tie as tie
 
 abbrev Inv-loop : tie.InvT-loop
-Inv-loop words₀ counts₀ port second from j₀ t8 words counts j = (j ≤ 200)
+Inv-loop words₀ counts₀ port second from j₀ words counts j = (j ≤ 200)
 
 abbrev μ-loop : tie.MeasureT-loop
-μ-loop words₀ counts₀ port second from j₀ t8 words counts j = 200 - j
+μ-loop words₀ counts₀ port second from j₀ words counts j = 200 - j
 
 pub flood-spec : {M : Type 1} → statement M
 flood-spec =
@@ -23,7 +23,6 @@ flood-spec =
     (λ c κs. search needs)
     (λ c κs. search needs)
     (λ c κs. search needs)
-    (λ c. search needs)
     (λ c. search needs)
     (λ c. search needs)
     (λ c κs. search needs)
