@@ -1,10 +1,11 @@
-// A White Rabbit link coming up on the slave's side, as the program `day` tells it: each event is taken by the engine, and what it
+// A White Rabbit link coming up on the slave's side, as the program `day` tells it: each event is a step of the engine's link, and what it
 // sends is counted. What happens is made up, so there is nothing that a contract could hold it to: its functions are proved to end
 // and to stay in bounds.
 use link::Event;
+use link::Link;
 use link::Sends;
 use link::Settings;
-use links::Taken;
+use link::Stepped;
 use tlv::form::CALIBRATE;
 use tlv::form::CALIBRATED;
 use tlv::form::LOCK;
@@ -13,8 +14,9 @@ use tlv::form::MODE_ON;
 // The nanoseconds of a second.
 const NANOS: u64 = refusal::SECOND_NANOS as u64;
 
-// How a link came up.
+// How a link came up, and the link.
 struct Rise {
+    link: Link,
     events: u64,
     sent: u64,
     on: bool,
@@ -55,30 +57,29 @@ fn messages(s: Sends) -> u64 {
     }
 }
 
-fn risen(r: Rise, x: Taken) -> Rise {
-    let Taken::Step(s) = x else {
-        return r;
-    };
+fn risen(r: Rise, s: Stepped) -> Rise {
+    let link = s.link;
     let sends = s.sends;
     Rise {
+        link,
         events: std::num::wrapping_add_u64(r.events, 1),
         sent: std::num::wrapping_add_u64(r.sent, messages(sends)),
         on: s.report,
     }
 }
 
-// The seven events of a link that comes up on `port` to a parent with these wrFlags.
-fn bring_up(port: u8, flags: u16) -> Rise {
-    let mut words = [0u64; 72];
-    links::set(&mut words, port, slave_settings());
+// The seven events of a link that comes up to a parent with these wrFlags.
+fn bring_up(flags: u16) -> Rise {
     let mut r = Rise {
+        link: link::fresh(),
         events: 0,
         sent: 0,
         on: false,
     };
     let mut i: u64 = 0;
     while i < 7 {
-        r = risen(r, links::take(&mut words, port, event(i, flags)));
+        let l = r.link;
+        r = risen(r, link::step(slave_settings(), l, event(i, flags)));
         i += 1;
     }
     r
@@ -107,6 +108,6 @@ const SECOND: u64 = 14 * 3600;
 // The link to the parent on `port`, at those seconds.
 pub fn begun(port: u8, flags: u16, second: u64) {
     if (second == FIRST) | (second == SECOND) {
-        told(port, bring_up(port, flags), second % 86_400 * NANOS);
+        told(port, bring_up(flags), second % 86_400 * NANOS);
     }
 }

@@ -5,10 +5,10 @@ use Rattle.rise.proofs.bring_up.Statement.{statement}
 use Rattle.rise.proofs.bring_up.Tie as tie
 
 abbrev Inv-loop : tie.InvT-loop
-Inv-loop port flags words₀ r₀ i₀ words r i = (i ≤ 7)
+Inv-loop flags r₀ i₀ r i = (i ≤ 7)
 
 abbrev μ-loop : tie.MeasureT-loop
-μ-loop port flags words₀ r₀ i₀ words r i = 7 - i
+μ-loop flags r₀ i₀ r i = 7 - i
 
 pub bring-up-spec : {M : Type 1} → statement M
 bring-up-spec =
@@ -17,8 +17,8 @@ bring-up-spec =
     Inv-loop
     μ-loop
     (λ c κs. search needs)
-    (λ c κs. search needs)
     (λ c. search needs)
+    (λ c κs. search needs)
     (λ c κs. search needs)
     (λ c κs. search needs)
     (λ c κs. search needs)
