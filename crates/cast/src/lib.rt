@@ -133,8 +133,8 @@ fn who(k: u64, second: u64) -> Speaker {
     }
 }
 
-// A message is made of numbers of eight octets: type, length, domain and flags; the correction; the first half of the sender's clock; these;
-// controlField, logMessageInterval and the body. Here are the second half of the clock, its port 1, and sequenceId.
+// A message is made of numbers of eight octets each: type, length, domain and flags; the correction; the first half of the sender's clock;
+// the second half with its port 1 and the sequenceId, which this is; then controlField, logMessageInterval and the body.
 fn sender(clock: u64, sequence: u16) -> u64 {
     clock % 0x1_0000_0000 * 0x1_0000_0000 + 0x1_0000 + sequence as u64
 }
