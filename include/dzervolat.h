@@ -359,7 +359,7 @@ enum dz_burst {
 dz_answer dz_take_burst(uint64_t ports[DZ_PORTS_WORDS], const uint8_t *octets, size_t length, uint64_t burst[][DZ_BURST_WORDS], size_t messages, uint8_t domain, uint64_t clock, uint16_t magic);
 
 /* A sender that announces a grandmaster so many steps away, or more, is no candidate: what it says may only be going round in a loop (IEEE 1588-2008,
-   9.3.2.5). It is taken and keeps its record as any other, and is a candidate again with its first Announce of fewer steps. */
+   9.3.2.5). It is taken and keeps its record as any other, and counts as any other from its first Announce of fewer steps on. */
 #define DZ_STEPS_DISTANT 255
 
 /* The candidate in a slot of a port at a time: its record, where the sender's two latest Announces were taken within four intervals and the last one is
