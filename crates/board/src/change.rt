@@ -64,8 +64,8 @@ fn silent(r: Record, window: u64, t: u64) {
 // Why a clock that is still heard is not: it says itself how far away its grandmaster is.
 fn distant(steps: u16) {
     page::tell(
-        b": %d steps from its grandmaster, and 254 are the most that count\n",
-        &[steps as u64],
+        b": %d steps from its grandmaster, and %d are the most that count\n",
+        &[steps as u64, senders::DISTANT as u64 - 1],
     );
 }
 

@@ -109,6 +109,10 @@ pub fn told(
     page::say(b"\nport  decision  best sender       grandmaster       steps  records\n");
     ports_told(words, counts, now, t);
     page::decisions_explained();
+    page::tell(
+        b"no best: no live record was heard twice in its window at fewer than %d steps\n",
+        &[senders::DISTANT as u64],
+    );
     cards_told(words, t);
     page::say(b"parent: ");
     crate::named(p);

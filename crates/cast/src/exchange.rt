@@ -60,11 +60,12 @@ fn shown(scaled: u64, hour: u64) -> u64 {
     }
 }
 
-// A Sync or a Follow_Up of a master, by what it begins with and by controlField, logMessageInterval and seconds: 44 octets.
-fn stamped(begin: u64, master: u64, sequence: u16, seconds: u64) -> [u8; 80] {
-    let clock = master / 0x1_0000_0000;
-    let second = sender(master, sequence);
-    written([begin, 0, clock, second, seconds, 0, 0, 0, 0, 0])
+// A Sync or a Follow_Up of a master, 44 octets, by what it begins with and by what stands behind its sender: controlField, logMessageInterval
+// and the seconds of its timestamp.
+fn stamped(begin: u64, master: u64, sequence: u16, behind: u64) -> [u8; 80] {
+    let half = master / 0x1_0000_0000;
+    let rest = sender(master, sequence);
+    written([begin, 0, half, rest, behind, 0, 0, 0, 0, 0])
 }
 
 // t1 of the hour, from the Follow_Up of a two-step Sync, whose own timestamp is 0.

@@ -151,7 +151,8 @@ fn written(eights: [u64; 10]) -> [u8; 80] {
 }
 
 // A sender's Announce, of so many octets: currentUtcOffset 37, priority1 128, timeSource 0x20. Behind its 64 octets stands a White Rabbit
-// suffix: type 3 with 10 octets, the OUI and MAGIC, version 1, 0x2000, and as wrFlags config 1, calibrated.
+// suffix: type 3 with 10 octets, the OUI and MAGIC, version 1, 0x2000, and as wrFlags config 1, calibrated. What is added up is kept within its
+// octets by a remainder, so that no sum can wrap.
 fn announce(s: Speaker, sequence: u16, length: u64) -> [u8; 80] {
     written([
         0x0b02_0000_0000_0008 + length % 256 * 0x1_0000_0000,

@@ -3,10 +3,10 @@
 use Prim.Native.Nat.{ℕ, _-_, _<_}
 use mathlib.Core.Path.{_≡_, sym, subst, _∙_}
 use mathlib.Core.List.{List, [], _∷_, map}
-use mathlib.Core.Bool.{true, false, not, _&&_}
+use mathlib.Core.Bool.{true, not, _&&_}
 use native.Mathlib.Omega.{arith}
-use lib.Dec.{leb, ltb}
-use borrow.Author.Tests.{leb-false, not-true, not-false}
+use lib.Dec.{leb}
+use borrow.Author.Tests.{leb-false, not-true}
 use Rattle.refusal.specs.Choice.{refuse}
 use Rattle.refusal.specs.declared.Refusal.{Refusal}
 use Rattle.refusal.specs.declared.Refusal.the-variants as refusal
@@ -19,18 +19,19 @@ use Rattle.rank.proofs.Best.{All, cases, rank-all}
 use Rattle.rank.proofs.Order.{ordered}
 use Rattle.rank.proofs.Merging.{AllValid, defined, unpack-pack, all-append, both, valid-sound}
 use Rattle.senders.specs.declared.Record.{Record}
-use Rattle.senders.specs.declared.Asked.{Asked}
 use Rattle.senders.specs.declared.Asked.the-variants.{Refused, Absent, Found}
 use Rattle.senders.specs.Record.{windowOf, isDistant, isQualified, candidateOf}
-use Rattle.senders.specs.Port.{Port, slotOf, kept, candidatesOf, candidateIn, headOf, bestOf, askedOf}
+use Rattle.senders.specs.Port.{Port, slotOf, kept, candidatesOf, candidateIn, headOf, bestOf}
 use Rattle.senders.proofs.Candidates.{candidates-valid}
 use Rattle.ports.specs.Words.{portAt}
 use Rattle.ports.specs.Asking.{candidateOn, bestOn}
+use Rattle.ports.proofs.Laws.{asked-found}
 use Rattle.election.specs.declared.Leader as leader
-use Rattle.election.specs.declared.Leader.the-variants.{Ours, Master}
+use Rattle.election.specs.declared.Leader.the-variants.{Master}
 use Rattle.election.specs.Elected.{everyPort, anyLate, heardOn, electedOf}
-use Rattle.election.specs.Decisions.{leads, parentBy, parentOf}
+use Rattle.election.specs.Decisions.{parentBy, parentOf}
 use Rattle.election.proofs.Electing.{every-port, best-first, heard-valid}
+use Rattle.election.proofs.Promises.{parent-first}
 
 -- "255 or more"
 abbrev pub Near : Candidate → Type 0
@@ -74,33 +75,9 @@ near-head (x ∷ l) c h e =
     let same : x ≡ c = cc in
     subst Near same (h .0)
 
-near-first : (own : Grandmaster) (l : List Candidate) (c : Candidate) → All Near l → parentBy own l ≡ Master c → Near c
-near-first own [] c h e = absurd (let z : _≡_ {A = ℕ} 0 1 = cc in omega arith)
-near-first own (x ∷ l) c h e =
-    cases (leads own x)
-    (λ k. let f : Ours ≡ Master c = rw k at e in absurd (let z : _≡_ {A = ℕ} 0 1 = cc in omega arith))
-    (λ k.
-    let f : Master x ≡ Master c = rw k at e in
-    let same : x ≡ c = cc in
-    subst Near same (h .0))
-
 -- ---- the calls
-not-found : (x : Refusal) (c : Candidate) → Refused x ≡ Found c → ⊥
-not-found x c e = let z : _≡_ {A = ℕ} 0 1 = cc in omega arith
-
 not-master : (x : Refusal) (c : Candidate) → leader.the-variants.Refused x ≡ Master c → ⊥
 not-master x c e = let z : _≡_ {A = ℕ} 0 1 = cc in omega arith
-
--- what is answered where neither 8 nor 11 is
-module _ (ws : List ℕ) (port t : ℕ) (answer : Asked) (c : Candidate) (e : refuse (not (isPort port)) (Refused refusal.Port) (askedOf (portAt ws port) t answer) ≡ Found c) where
-  past-8 : (not (isPort port) ≡ false) × (askedOf (portAt ws port) t answer ≡ Found c)
-  past-8 = passed (Refused refusal.Port) (askedOf (portAt ws port) t answer) (Found c) (not (isPort port)) (not-found refusal.Port c) e
-
-  answered : answer ≡ Found c
-  answered = passed (Refused refusal.Backward) answer (Found c) (ltb t (portAt ws port .last)) (not-found refusal.Backward c) (past-8 .1) .1
-
-  on-port : isPort port ≡ true
-  on-port = not-false _ (past-8 .0)
 
 -- what comes out of a clock's words at t
 pub record NoneDistant (own : Grandmaster) (ws : List ℕ) (t : ℕ) : Type 0 where
@@ -132,15 +109,15 @@ module _ (own : Grandmaster) (ws : List ℕ) (t : ℕ) where
   near-parent : (c : Candidate) → parentOf own (electedOf ws t everyPort .list) ≡ Master c → Near c
   near-parent c e =
       let list = electedOf ws t everyPort .list in
-      near-first own (unpack list) c near-listed
-      (passed (leader.the-variants.Refused refusal.Unranked) (parentBy own (unpack list)) (Master c) (not (isRanked list)) (not-master refusal.Unranked c) e .1)
+      let f = passed (leader.the-variants.Refused refusal.Unranked) (parentBy own (unpack list)) (Master c) (not (isRanked list)) (not-master refusal.Unranked c) e .1 in
+      subst (All Near) (parent-first own (unpack list) c f) near-listed .0
 
   -- THEY ARE ALL NEAR
   pub none-distant : NoneDistant own ws t
   none-distant =
       record {
-        candidate = λ port slot c e. near-in port (portAt ws port) slot t c (answered ws port t (candidateIn port (portAt ws port) slot t) c e);
-        best = λ port c e. near-best port c (on-port ws port t (bestOf port (portAt ws port) t) c e) (answered ws port t (bestOf port (portAt ws port) t) c e);
+        candidate = λ port slot c e. near-in port (portAt ws port) slot t c (asked-found ws port t (candidateIn port (portAt ws port) slot t) c e .1);
+        best = λ port c e. let a = asked-found ws port t (bestOf port (portAt ws port) t) c e in near-best port c (a .0) (a .1);
         listed = near-listed;
         parent = near-parent;
       }

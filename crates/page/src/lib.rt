@@ -33,5 +33,4 @@ pub fn decisions_explained() {
     say(
         b"P1 passive: our class is 1 to 127 and the port hears a better clock    P2 passive: as S2, but not in the list\n",
     );
-    say(b"no best: no live record was heard twice in its window at fewer than 255 steps\n");
 }

@@ -1,19 +1,16 @@
 -- After any calls from fresh words: what a port holds of a sender, and who its candidates are, by the Announces that it accepted.
 use mathlib.Core.Path.{_≡_, refl, sym, ap, subst, _∙_}
-use mathlib.Core.Bool.{Bool, true, false, not}
+use mathlib.Core.Bool.{Bool, true, false}
 use mathlib.Core.List.{List, [], _∷_}
 use Prim.Native.Nat.{ℕ, _+_, _-_, _*_, _≤_, _<_}
 use native.Mathlib.Omega.{arith}
-use lib.Dec.{eqb, ltb}
+use lib.Dec.{eqb}
 use lib.IntN.{ℤ}
 use lib.ListN.{length, set}
 use borrow.Author.Tests.{eqb-true, eqb-false, eq-eqb, ne-eqb, le-ltb}
 use Rattle.refusal.specs.Choice.{pick, refuse}
-use Rattle.refusal.specs.declared.Refusal.{Refusal}
-use Rattle.refusal.specs.declared.Refusal.the-variants as refusal
 use Rattle.refusal.specs.declared.Refusal.the-variants.{Stale}
 use Rattle.refusal.specs.Refusal.{codeOf}
-use Rattle.refusal.proofs.Choice.{passed}
 use Rattle.rank.specs.declared.Candidate.{Candidate}
 use Rattle.rank.specs.declared.PortIdentity.{PortIdentity}
 use Rattle.rank.specs.Ranked.{isPort}
@@ -23,7 +20,7 @@ use Rattle.senders.specs.declared.Plan.{Plan}
 use Rattle.senders.specs.declared.Plan.the-variants.{Refuse, Put}
 use Rattle.senders.specs.declared.Asked.the-variants as asked
 use Rattle.senders.specs.Record.{windowOf, isOf}
-use Rattle.senders.specs.Port.{Port, emptySlot, slotOf, planOf, outcomeOf, portAfter, askedOf, candidateIn}
+use Rattle.senders.specs.Port.{Port, emptySlot, slotOf, planOf, outcomeOf, portAfter, candidateIn}
 use Rattle.senders.specs.History.{PortEvent, interval, madeBy, Receipt, lastAccepted, since, keptOf, candidateBy, staleBy, unbroken, Steady}
 use Rattle.senders.proofs.Intake as intake
 use Rattle.senders.proofs.Exactly.{plan-numbered}
@@ -45,6 +42,7 @@ use Rattle.ports.specs.declared.asking.Looked.the-variants as looked
 use Rattle.ports.specs.History.{Call, taking, setting, asking, portOfCall, after, run, ownAfter, fresh, OctetCall, OctetCalls}
 use Rattle.ports.specs.When.{takeNumber}
 use Rattle.ports.specs.Accepted.{announcedBy, addedBy, historyFrom, historyOn, acceptedOn, Unset, SteadyOn, IsCandidate}
+use Rattle.ports.proofs.Laws.{asked-found}
 use Rattle.ports.proofs.Follows.{own-length, after-all, frame, own-after}
 use Rattle.ports.proofs.Fits.{notice-fits}
 use Rattle.ports.proofs.Promises.{Zeros, zeros-tab, zeros-block, by-means, planned}
@@ -125,17 +123,12 @@ module _ (q : ℕ) (iq : isPort q ≡ true) where
         shown-by r s i h refl (eqb (s .receipts) 0) refl (cc)
 
     -- ---- candidates
-    not-found : (x : Refusal) (c : Candidate) → asked.Refused x ≡ asked.Found c → ⊥
-    not-found x c e = let z : _≡_ {A = ℕ} 0 1 = cc in omega arith
-
     -- A CANDIDATE'S TWO LATEST ACCEPTED ANNOUNCES LIE WITH THE OLDER WITHIN W OF T, and it has the data of the last
     pub candidates-only : (i t : ℕ) → i < 16 → (c : Candidate) → candidateOn (run fresh cs) q i t ≡ asked.Found c
         → candidateBy q (windowOf (portAt (run fresh cs) q .e)) t (acceptedOn q cs (c .sender)) ≡ asked.Found c
     candidates-only i t h c e =
         let p = portAt (run fresh cs) q in
-        let answer = candidateIn q p i t in
-        let f = passed (asked.Refused refusal.Port) (askedOf p t answer) (asked.Found c) (not (isPort q)) (not-found refusal.Port c) e .1 in
-        let g : answer ≡ asked.Found c = passed (asked.Refused refusal.Backward) answer (asked.Found c) (ltb t (p .last)) (not-found refusal.Backward c) f .1 in
+        let g = asked-found (run fresh cs) q t (candidateIn q p i t) c e .1 in
         subst (λ (r : Port). candidateIn q r i t ≡ asked.Found c → candidateBy q (windowOf (r .e)) t (acceptedOn q cs (c .sender)) ≡ asked.Found c) (sym port-by-history)
         (candidate-only (historyOn q cs) q i t h c) g
 

@@ -1,11 +1,11 @@
--- Laws of eighteen ports: a port that is one, its part of the words, and the cases of taking and setting.
+-- Laws of eighteen ports: a port that is one, its part of the words, and the cases of taking, asking and setting.
 use mathlib.Core.Path.{_≡_, refl, sym, ap, _∙_}
 use mathlib.Core.Bool.{Bool, true, false, not, or-false}
 use mathlib.Core.List.{List, _++_}
 use Prim.Native.Nat.{ℕ, suc, _+_, _-_, _*_, _%_, _≤_, _<_}
 use native.Mathlib.Omega.{arith}
 use native.Mathlib.Decide.{decLe}
-use lib.Dec.{leb}
+use lib.Dec.{leb, ltb}
 use lib.IntN.{ℤ, pos, negsuc}
 use lib.ListN.{take, drop, set, take-append-drop}
 use lib.Seq.{drop-drop}
@@ -16,14 +16,17 @@ use borrow.Author.Tests.{not-true, not-false, leb-true, le-leb, lt-leb, lt-ltb, 
 pub use Rattle.refusal.proofs.Limits.{port-bounds}
 use Rattle.refusal.specs.Choice.{refuse}
 use Rattle.refusal.specs.declared.Refusal.{Refusal}
-use Rattle.refusal.specs.declared.Refusal.the-variants.{Port, Field}
+use Rattle.refusal.specs.declared.Refusal.the-variants.{Port, Backward, Field}
 use Rattle.refusal.specs.declared.Outcome.{Outcome}
 use Rattle.refusal.specs.declared.Outcome.the-variants as outcome
 use Rattle.refusal.proofs.Choice.{passed, is-refused}
+use Rattle.rank.specs.declared.Candidate.{Candidate}
 use Rattle.rank.specs.Ranked.{isPort}
 use Rattle.senders.specs.declared.Notice as kept
 use Rattle.senders.specs.declared.Plan.{Plan}
 use Rattle.senders.specs.declared.Plan.the-variants.{Refuse, Put}
+use Rattle.senders.specs.declared.Asked.{Asked}
+use Rattle.senders.specs.declared.Asked.the-variants as asked
 use Rattle.senders.specs.Port as senders
 use Rattle.slots.specs.Words.{block, portOf, wordsAfter}
 use Rattle.slots.proofs.Laws.{lent}
@@ -32,6 +35,7 @@ use Rattle.ports.specs.declared.intake.Admitted.{Admitted}
 use Rattle.ports.specs.declared.intake.Admitted.the-variants.{Refused, Notice}
 use Rattle.ports.specs.Words.{own, with, portAt}
 use Rattle.ports.specs.Intake.{admittedOf, admittedBy, planBy, planAt, stateAfter}
+use Rattle.ports.specs.Asking.{onPort}
 use Rattle.ports.specs.Interval.{isInterval, inRange, intervalOf, setBy, afterBy, intervalSet, intervalAfter}
 use Rattle.message.specs.Parts.{announcedOf}
 use Rattle.words.specs.Words as named
@@ -98,6 +102,18 @@ unfolding admittedOf
 take-no-port set ws w t s h =
     take-refused set ws (named.portOf w) t s (Refused Port) Port
     (is-refused (isPort (named.portOf w)) false (sym (no-port w h)) (Refused Port) (admittedBy set (announcedOf (set .magic) s)) refl) refl
+
+-- ---- asking
+-- what is found was refused neither with 8 nor with 11
+module _ (ws : List ℕ) (port t : ℕ) (answer : Asked) (c : Candidate) where
+  not-found : (x : Refusal) → asked.Refused x ≡ asked.Found c → ⊥
+  not-found x e = let z : _≡_ {A = ℕ} 0 1 = cc in omega arith
+
+  pub asked-found : onPort port (senders.askedOf (portAt ws port) t answer) ≡ asked.Found c → (isPort port ≡ true) × (answer ≡ asked.Found c)
+  asked-found e =
+      let p = portAt ws port in
+      let on = passed (asked.Refused Port) (senders.askedOf p t answer) (asked.Found c) (not (isPort port)) (not-found Port) e in
+      (not-false _ (on .0), passed (asked.Refused Backward) answer (asked.Found c) (ltb t (p .last)) (not-found Backward) (on .1) .1)
 
 -- ---- the interval
 leb-same : (a b n m : ℕ) → (a ≤ b → n ≤ m) → (n ≤ m → a ≤ b) → leb a b ≡ leb n m

@@ -2,11 +2,11 @@
 -- slot a record stands, and its receipts, are the same whatever the steps. Said by leaving the steps out: what an Announce does to a port
 -- without steps is what it does to the port, without steps.
 use Prim.Native.Nat.{ℕ, zero, suc}
-use mathlib.Core.Path.{_≡_, refl, sym, ap, ap₂, _∙_}
+use mathlib.Core.Path.{_≡_, refl, ap, ap₂, _∙_}
 use mathlib.Core.Bool.{Bool, true, false, not}
 use mathlib.Core.List.{List, [], _∷_, map}
 use lib.Dec.{ltb}
-use lib.ListN.{getD, set}
+use lib.ListN.{getD, set, List·getD-map}
 use Rattle.refusal.specs.Choice.{pick, refuse}
 use Rattle.refusal.specs.declared.Refusal.the-variants.{Backward, Stale, Full}
 use Rattle.senders.specs.declared.Notice.{Notice}
@@ -14,8 +14,9 @@ use Rattle.senders.specs.declared.Record.{Record}
 use Rattle.senders.specs.declared.Plan.{Plan}
 use Rattle.senders.specs.declared.Plan.the-variants.{Refuse, Put}
 use Rattle.senders.specs.Record.{windowOf, isOf, isLive, isFree, isNewer, freshOf, nextOf}
-use Rattle.senders.specs.Port.{Port, tab, emptySlot, first, knownOf, newOf, senderPlan, planOf, outcomeOf, portAfter}
+use Rattle.senders.specs.Port.{Port, emptySlot, first, knownOf, newOf, senderPlan, planOf, outcomeOf, portAfter}
 use Rattle.senders.specs.History.{PortEvent, announced, interval, madeBy}
+use Rattle.senders.proofs.Candidates.{tab-map}
 
 -- an Announce, a record, a port, a plan and an event without their steps
 abbrev pub blindNotice : Notice → Notice
@@ -41,22 +42,11 @@ unfolding first
 first-blind test same [] = refl
 first-blind test same (r ∷ l) = ap₂ (λ (b : Bool) (n : ℕ). pick b 0 (suc n)) (same r) (first-blind test same l)
 
-getD-blind : (l : List Record) (i : ℕ) → getD (map blindRecord l) i emptySlot ≡ blindRecord (getD l i emptySlot)
-getD-blind [] zero = refl
-getD-blind [] (suc i) = refl
-getD-blind (r ∷ l) zero = refl
-getD-blind (r ∷ l) (suc i) = getD-blind l i
-
 set-blind : (l : List Record) (i : ℕ) (r : Record) → set (map blindRecord l) i (blindRecord r) ≡ map blindRecord (set l i r)
 set-blind [] zero r = refl
 set-blind [] (suc i) r = refl
 set-blind (x ∷ l) zero r = refl
 set-blind (x ∷ l) (suc i) r = ap (λ (k : List Record). blindRecord x ∷ k) (set-blind l i r)
-
-tab-blind : (n : ℕ) → map blindRecord (tab n (λ i. emptySlot)) ≡ tab n (λ i. emptySlot)
-unfolding tab
-tab-blind zero = refl
-tab-blind (suc n) = ap (λ (k : List Record). emptySlot ∷ k) (tab-blind n)
 
 -- ---- a choice of plans
 pick-blind : (b : Bool) (x y : Plan) → pick b (blindPlan x) (blindPlan y) ≡ blindPlan (pick b x y)
@@ -81,7 +71,7 @@ module _ (t : ℕ) (a : Notice) where
   sender-blind : (w i : ℕ) (l : List Record) → senderPlan w t (blindNotice a) (map blindRecord l) i ≡ blindPlan (senderPlan w t a l i)
   sender-blind w i l =
       ap₂ (λ (x y : Plan). pick (ltb i 16) x y)
-      (ap (knownOf w t (blindNotice a) i) (getD-blind l i) ∙ known-blind w i (getD l i emptySlot))
+      (ap (knownOf w t (blindNotice a) i) (List·getD-map blindRecord l i emptySlot) ∙ known-blind w i (getD l i emptySlot))
       (ap (newOf t (blindNotice a)) (first-blind (isFree w t) (λ r. refl) l) ∙ new-blind (first (isFree w t) l))
       ∙ pick-blind (ltb i 16) (knownOf w t a i (getD l i emptySlot)) (newOf t a (first (isFree w t) l))
 
@@ -111,7 +101,7 @@ module _ (t : ℕ) (a : Notice) where
 -- AND OVER ANY HISTORY: without steps it makes the same port, without steps
 pub history-blind : (hs : List PortEvent) → madeBy (map blindEvent hs) ≡ blindPort (madeBy hs)
 unfolding madeBy
-history-blind [] = ap (λ (l : List Record). record { last = 0; e = 0; slots = l }) (sym (tab-blind 16))
+history-blind [] = ap (λ (l : List Record). record { last = 0; e = 0; slots = l }) (tab-map blindRecord 16 (λ i. emptySlot))
 history-blind (announced t a ∷ older) =
     ap (λ (p : Port). portAfter p t (planOf p t (blindNotice a))) (history-blind older)
     ∙ ap (portAfter (blindPort (madeBy older)) t) (plan-blind t a (madeBy older))

@@ -14,7 +14,7 @@ use Rattle.senders.specs.declared.Asked.the-variants.{Absent, Found}
 use Rattle.senders.specs.Record.{windowOf, isQualified, candidateOf}
 use Rattle.senders.specs.Port.{Port, emptySlot, slotOf, tab, kept, gather, candidatesOf, candidateIn}
 
-tab-map : {A B : Type 0} (g : A → B) (n : ℕ) (f : ℕ → A) → tab n (λ i. g (f i)) ≡ map g (tab n f)
+pub tab-map : {A B : Type 0} (g : A → B) (n : ℕ) (f : ℕ → A) → tab n (λ i. g (f i)) ≡ map g (tab n f)
 unfolding tab
 tab-map g zero f = refl
 tab-map {A} {B} g (suc n) f = ap (λ (l : List B). g (f 0) ∷ l) (tab-map g n (λ i. f (suc i)))

@@ -1,8 +1,8 @@
 // One sender's record, and what an Announce does to a port's records, over plain values.
 //
 // A port keeps sixteen records. A record is live while its newest receipt lies in the window, and its sender is a candidate
-// while its two latest receipts do and it is not too many steps away. What an Announce does is a plan: to refuse it, or to put a record into a slot. A live
-// record is never put out for a new sender.
+// while its two latest receipts do and it is not too many steps away. What an Announce does is a plan: to refuse it, or to
+// put a record into a slot. A live record is never put out for a new sender.
 //
 // Refused here: 12 (a live sender's sequenceId is not newer) and 13 (a new sender, and sixteen live ones). Where the
 // records are kept, and what is refused before an Announce comes here, is left to those above.

@@ -7,8 +7,8 @@ use Rattle.rank.specs.Order.{earlierOf}
 use Rattle.rank.proofs.Best.{cases}
 use Rattle.senders.specs.Record.{windowOf, candidateOf}
 use Rattle.senders.specs.Port.{candidatesOf, bestOf}
-use Rattle.slots.specs.Words.{block, recordOf, portOf, outdoesIn, bestIn}
-use Rattle.slots.specs.Places.{beginOf, placeAmong, placeIn, foundIn, aboveIn}
+use Rattle.slots.specs.Words.{block, beginOf, recordOf, portOf, outdoesIn, bestIn}
+use Rattle.slots.specs.Places.{placeAmong, placeIn, foundIn, aboveIn}
 use Rattle.slots.proofs.Order.{above-words}
 use Rattle.slots.proofs.Cases.{Words64, best-among, grade-word}
 

@@ -23,8 +23,8 @@ use Rattle.senders.specs.declared.Asked.the-variants.{Refused, Absent, Found}
 use Rattle.senders.specs.Record.{windowOf, isOf, isFree, isQualified, candidateOf}
 use Rattle.senders.specs.Port.{Port, emptySlot, slotOf, tab, first, kept, knownOf, newOf, planOf, askedOf, candidateIn, candidatesOf, bestOf, headOf}
 use Rattle.slots.specs.declared.Seen.the-variants.{Empty, Held}
-use Rattle.slots.specs.Words.{block, recordOf, slotAt, slotsOf, portOf, seenIn, aheadIn, outdoesIn, bestIn}
-use Rattle.slots.specs.Places.{beginOf, placeAmong, foundIn}
+use Rattle.slots.specs.Words.{block, beginOf, recordOf, slotAt, slotsOf, portOf, seenIn, aheadIn, outdoesIn, bestIn}
+use Rattle.slots.specs.Places.{placeAmong, foundIn}
 use Rattle.slots.proofs.Laws.{length-tab, getD-tab, getD-past}
 use Rattle.slots.proofs.Order.{earlier-words}
 

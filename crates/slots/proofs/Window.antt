@@ -9,8 +9,8 @@ use borrow.Author.Tests.{le-leb, lt-leb, leb-true, leb-false}
 use Rattle.refusal.specs.Choice.{pick}
 use Rattle.senders.specs.declared.Record.{Record}
 use Rattle.senders.specs.Record.{isDistant, isQualified}
-use Rattle.slots.specs.Words.{block, recordOf, aheadIn, outdoesIn}
-use Rattle.slots.specs.Places.{beginOf, placeAmong}
+use Rattle.slots.specs.Words.{block, beginOf, recordOf, aheadIn, outdoesIn}
+use Rattle.slots.specs.Places.{placeAmong}
 
 module _ (older w t : ℕ) where
   by-test : (b : Bool) → leb (t - older) w ≡ b → leb (t - older) w ≡ leb (t - w - older) 0

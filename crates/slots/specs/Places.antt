@@ -1,6 +1,6 @@
 -- What only the code needs: the best candidate of a port by where its record begins in the port's words, and rank order of two
 -- records of different ports as their words show it.
-use Prim.Native.Nat.{ℕ, zero, suc, _+_, _-_, _*_, _/_, _%_}
+use Prim.Native.Nat.{ℕ, zero, suc, _-_, _/_, _%_}
 use mathlib.Core.Bool.{Bool}
 use mathlib.Core.List.{List}
 use lib.Dec.{eqb, ltb}
@@ -9,11 +9,7 @@ use Rattle.refusal.specs.Choice.{pick}
 use Rattle.senders.specs.declared.Asked.{Asked}
 use Rattle.senders.specs.declared.Asked.the-variants.{Absent, Found}
 use Rattle.senders.specs.Record.{windowOf, candidateOf}
-use Rattle.slots.specs.Words.{block, recordOf, portOf, outdoesIn}
-
--- where a slot begins
-abbrev pub beginOf : ℕ → ℕ
-beginOf i = 2 + 6 * i
+use Rattle.slots.specs.Words.{block, beginOf, recordOf, portOf, outdoesIn}
 
 -- where the record of the best of the last n slots begins, or 0
 unfoldable pub placeAmong : List ℕ → ℕ → ℕ → ℕ → ℕ

@@ -82,8 +82,12 @@ recordOf l = ofSix l
 unfoldable pub wordsOf : Record → List ℕ
 wordsOf r = sixOf r
 
+-- where a slot begins
+abbrev pub beginOf : ℕ → ℕ
+beginOf i = 2 + 6 * i
+
 abbrev pub slotAt : List ℕ → ℕ → Record
-slotAt ws i = recordOf (block ws (2 + 6 * i) 6)
+slotAt ws i = recordOf (block ws (beginOf i) 6)
 
 abbrev pub slotsOf : List ℕ → List Record
 slotsOf ws = tab 16 (slotAt ws)
@@ -93,7 +97,7 @@ abbrev pub portOf : List ℕ → Port
 portOf ws = record { last = getD ws 0 0; e = getD ws 1 0; slots = slotsOf ws }
 
 abbrev pub putSlot : List ℕ → ℕ → Record → List ℕ
-putSlot ws i r = splice ws (2 + 6 * i) 6 (wordsOf r)
+putSlot ws i r = splice ws (beginOf i) 6 (wordsOf r)
 
 -- the words after a plan: one record and one time are written, or nothing
 abbrev pub wordsAfter : List ℕ → ℕ → Plan → List ℕ

@@ -1,20 +1,13 @@
 -- `is_qualified` meets its contract: `age` is the difference of the definition, and the three tests may come in any order.
-use mathlib.Core.Path.{_≡_, refl}
-use mathlib.Core.Bool.{Bool, true, false, not, _&&_}
+use mathlib.Core.Path.{_≡_, ap, _∙_}
+use mathlib.Core.Bool.{Bool, not, _&&_, and-assoc, and-comm}
 use lib.Dec.{leb}
 use borrow.Author.Needs.{needs}
 use Rattle.senders.proofs.is_qualified.Statement.{statement}
 use Rattle.senders.proofs.is_qualified.Tie as tie
 
 turned : (a b c : Bool) → ((c && b) && a) ≡ ((a && b) && c)
-turned true true true = refl
-turned true true false = refl
-turned true false true = refl
-turned true false false = refl
-turned false true true = refl
-turned false true false = refl
-turned false false true = refl
-turned false false false = refl
+turned a b c = and-assoc c b a ∙ and-comm c (b && a) ∙ ap (λ (x : Bool). x && c) (and-comm b a)
 
 returns : tie.Need-returns
 returns c =

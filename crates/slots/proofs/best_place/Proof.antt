@@ -4,8 +4,8 @@ use Prim.Native.Nat.{ℕ, suc, _+_, _-_, _≤_}
 use native.Mathlib.Omega.{arith}
 use Rattle.refusal.specs.Choice.{pick}
 use borrow.Author.Needs.{needs}
-use Rattle.slots.specs.Words.{outdoesIn}
-use Rattle.slots.specs.Places.{beginOf, placeAmong}
+use Rattle.slots.specs.Words.{beginOf, outdoesIn}
+use Rattle.slots.specs.Places.{placeAmong}
 use Rattle.slots.proofs.Begins.{among-bound}
 use Rattle.slots.proofs.Window.{place-since}
 use Rattle.slots.proofs.best_place.Statement.{statement}
