@@ -17,6 +17,9 @@ extern __typeof__(dz_compare) c_compare;
 extern __typeof__(dz_rank) c_rank;
 extern __typeof__(dz_merge) c_merge;
 extern __typeof__(dz_decide_all) c_decide_all;
+extern __typeof__(dz_trace_record) c_trace_record;
+extern __typeof__(dz_replay_block) c_replay_block;
+extern __typeof__(dz_replay) c_replay;
 extern __typeof__(dz_link_take) c_link_take;
 extern __typeof__(dz_measure) c_measure;
 

@@ -6,7 +6,7 @@
    For x86-64 Linux, without a C library, so that nothing else runs and is counted. */
 #include "hand.h"
 
-enum { PORT = 7, ROOM = 128, ANNOUNCE_OCTETS = 64, RUN = DZ_PORTS * DZ_SLOTS, BURST = 64 };
+enum { PORT = 7, ROOM = 128, ANNOUNCE_OCTETS = 64, RUN = DZ_PORTS * DZ_SLOTS, BURST = 64, BLOCKS = 16, A_BLOCK = 5, A_PORT = DZ_PORTS_WORDS / DZ_PORTS };
 static const uint64_t second = 1000000000, own_clock = 1;
 static const uint16_t magic = DZ_EXAMPLE_MAGIC;
 
@@ -64,6 +64,8 @@ struct lent {
     uint8_t announce[ANNOUNCE_OCTETS + DZ_SUFFIX_OCTETS], suffix[DZ_SUFFIX_OCTETS], out[ROOM], decisions[DZ_PORTS];
     uint64_t length, burst[BURST][DZ_BURST_WORDS];
     uint8_t ring[BURST][ANNOUNCE_OCTETS];
+    uint64_t recording[DZ_RECORDING_WORDS], opened[DZ_RECORDING_WORDS], closed, reader[DZ_READER_WORDS], last, heard[A_PORT];
+    uint8_t open[DZ_BLOCK_OCTETS], block[DZ_BLOCK_OCTETS], trace[BLOCKS][DZ_BLOCK_OCTETS];
 };
 static struct lent fresh, lent[2];
 
@@ -137,6 +139,33 @@ static void full_ring(struct lent *m)
         __builtin_memcpy(m->ring[k], m->announce, ANNOUNCE_OCTETS);
     }
 }
+
+/* A recording with one record, as it is put back for each turn. */
+static void one_recorded(struct lent *m)
+{
+    with_suffix(m);
+    dz_trace_record(m->recording, m->open, PORT, second, m->announce, m->length, m->block, &m->closed);
+    __builtin_memcpy(m->opened, m->recording, sizeof m->opened);
+}
+
+/* A trace of Announces with the suffix, of so many senders in turn, five a block; and a port that has heard each of them, which is put back for each turn. */
+static void record_trace(struct lent *m, uint32_t senders)
+{
+    size_t blocks = 0;
+    with_suffix(m);
+    for (uint32_t sender = 0; sender < senders; sender++) hear(m, PORT, sender);
+    __builtin_memcpy(m->heard, m->ports + (PORT - 1) * A_PORT, sizeof m->heard);
+    for (uint32_t i = 0; i < BLOCKS * A_BLOCK; i++) {
+        rename(m, PORT << 8 | i % senders, (uint16_t)(3 + i / senders));
+        if (dz_trace_record(m->recording, m->open, PORT, 2 * second + i, m->announce, m->length, m->trace[blocks], &m->closed) != DZ_OK) leave(2);
+        blocks += m->closed;
+    }
+    dz_trace_finish(m->recording, m->open, m->trace[blocks], &m->closed);
+    if (blocks + m->closed != BLOCKS) leave(2);
+}
+
+static void one_recorded_sender(struct lent *m) { record_trace(m, 1); }
+static void sixteen_recorded(struct lent *m) { record_trace(m, DZ_SLOTS); }
 
 /* Two sets of one grandmaster, the second higher in one word; where that is of the quality, it is another grandmaster. */
 static void two_sets(struct lent *m, int word)
@@ -221,6 +250,16 @@ static dz_answer take_burst(struct lent *m, any_call *f, uint64_t i)
     return CALL(take_burst, m->ports, m->ring[0], sizeof m->ring, m->burst, BURST, 0, own_clock, magic);
 }
 
+static dz_answer record(struct lent *m, any_call *f, uint64_t i) { return CALL(trace_record, m->recording, m->open, PORT, second + i, m->announce, m->length, m->block, &m->closed); }
+static dz_answer record_second(struct lent *m, any_call *f, uint64_t i) { return __builtin_memcpy(m->recording, m->opened, sizeof m->recording), record(m, f, i); }
+static dz_answer replay(struct lent *m, any_call *f, uint64_t i) { return (void)i, CALL(replay, m->ports, m->trace[0], sizeof m->trace, 0, own_clock, magic, &m->last); }
+static dz_answer replay_block(struct lent *m, any_call *f, uint64_t i)
+{
+    __builtin_memcpy(m->ports + (PORT - 1) * A_PORT, m->heard, sizeof m->heard);
+    m->reader[DZ_READER_NEXT] = m->reader[DZ_READER_LAST] = 0;
+    return CALL(replay_block, m->ports, m->reader, m->trace[i % BLOCKS], DZ_BLOCK_OCTETS, 0, own_clock, magic);
+}
+
 static dz_answer candidate(struct lent *m, any_call *f, uint64_t i) { return CALL(candidate, m->ports, PORT, i % DZ_SLOTS, 2 * second, m->found); }
 static dz_answer best(struct lent *m, any_call *f, uint64_t i) { return (void)i, CALL(best, m->ports, PORT, 2 * second, m->found); }
 static dz_answer compare(struct lent *m, any_call *f, uint64_t i) { return (void)i, CALL(compare, m->set, m->rival, &m->answer); }
@@ -256,6 +295,12 @@ static const struct row {
     {"burst", BOTH(take_burst), full_ring, take_burst, DZ_OK},
     {"full", BOTH(take), full_port, take_new, DZ_REFUSED_FULL},
     {"flooded", BOTH(take), flooded_port, take_new, DZ_REFUSED_FULL},
+    {"record", BOTH(trace_record), with_suffix, record, DZ_OK},
+    {"record-second", BOTH(trace_record), one_recorded, record_second, DZ_OK},
+    {"replay-block-1", BOTH(replay_block), one_recorded_sender, replay_block, DZ_OK},
+    {"replay-block-16", BOTH(replay_block), sixteen_recorded, replay_block, DZ_OK},
+    {"replay-1", BOTH(replay), one_recorded_sender, replay, DZ_OK},
+    {"replay-16", BOTH(replay), sixteen_recorded, replay, DZ_OK},
     {"write", BOTH(write), plain, write, DZ_OK},
     {"candidate", BOTH(candidate), full_port, candidate, DZ_OK},
     {"best", BOTH(best), full_port, best, DZ_OK},

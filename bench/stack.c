@@ -12,6 +12,9 @@ static const uint64_t signaling[DZ_MESSAGE_WORDS] = {[DZ_M_TYPE] = DZ_SIGNALING}
 static const uint64_t exchange[DZ_EXCHANGE_WORDS] = {[DZ_E_T2_NANOS] = 510, [DZ_E_T3_NANOS] = 1000510, [DZ_E_T4_NANOS] = 1001000, [DZ_E_ASYMMETRY] = 1 << 20};
 static uint64_t ports[DZ_PORTS_WORDS], links[DZ_LINKS_WORDS], message[DZ_MESSAGE_WORDS] = {[DZ_M_TYPE] = DZ_ANNOUNCE, [DZ_M_CLOCK] = 9, [DZ_M_GRANDMASTER] = 9};
 static uint64_t run[RUN * DZ_CANDIDATE_WORDS], list[DZ_LIST_WORDS], words[DZ_LIST_WORDS], found[DZ_FOUND_WORDS], number, now;
+static uint64_t recording[DZ_RECORDING_WORDS], replayed[DZ_PORTS_WORDS], reader[DZ_READER_WORDS];
+static uint8_t open[DZ_BLOCK_OCTETS], block[DZ_BLOCK_OCTETS], trace[2 * DZ_BLOCK_OCTETS]; /* two blocks, each with an Announce */
+static size_t block_at;
 static uint64_t burst[1][DZ_BURST_WORDS] = {{[DZ_BURST_PORT] = PORT, [DZ_BURST_LENGTH] = 78}};
 static uint8_t announce[78], sync[44] = {[1] = 2, [3] = 44}, frame[64], out[128], suffix[DZ_SUFFIX_OCTETS], decisions[DZ_PORTS];
 
@@ -27,6 +30,11 @@ static void call_write_link(void) { dz_write_link(out, sizeof out, signaling, lo
 static void call_write_suffix(void) { dz_write_suffix(5, magic, suffix); }
 static void call_take(void) { announce[31]++, dz_take(ports, PORT, ++now, announce, sizeof announce, 0, own_clock, magic); }
 static void call_take_burst(void) { burst[0][DZ_BURST_TIME] = ++now, announce[31]++, dz_take_burst(ports, announce, sizeof announce, burst, 1, 0, own_clock, magic); }
+static void call_trace_record(void) { recording[DZ_RECORDING_END] = DZ_BLOCK_OCTETS, dz_trace_record(recording, open, PORT, now, announce, sizeof announce, block, &number); }
+static void call_trace_finish(void) { dz_trace_finish(recording, open, block, &number); }
+static void call_trace_walk(void) { dz_trace_walk(trace, 0, found); }
+static void call_replay_block(void) { dz_replay_block(replayed, reader, trace + block_at, DZ_BLOCK_OCTETS, 0, own_clock, magic), block_at += DZ_BLOCK_OCTETS; }
+static void call_replay(void) { dz_replay(replayed, trace, sizeof trace, 0, own_clock, magic, &number); }
 static void call_candidate(void) { dz_candidate(ports, PORT, 0, now, found); }
 static void call_best(void) { dz_best(ports, PORT, now, found); }
 static void call_status(void) { dz_status(ports, PORT, words); }
@@ -50,7 +58,8 @@ static void call_measure(void) { dz_measure(exchange, words); }
 #define CALL(name) {"dz_" #name, call_##name}
 static const struct { const char *name; void (*call)(void); } calls[] = {
     CALL(version), CALL(read), CALL(lookup), CALL(walk), CALL(suffix), CALL(link_message), CALL(origin), CALL(write), CALL(write_link), CALL(write_suffix),
-    CALL(take), CALL(take_burst), CALL(candidate), CALL(best), CALL(status), CALL(record), CALL(set_interval), CALL(rank), CALL(merge), CALL(decide), CALL(decide_all), CALL(parent),
+    CALL(take), CALL(take_burst), CALL(trace_record), CALL(trace_finish), CALL(trace_walk), CALL(replay_block), CALL(replay),
+    CALL(candidate), CALL(best), CALL(status), CALL(record), CALL(set_interval), CALL(rank), CALL(merge), CALL(decide), CALL(decide_all), CALL(parent),
     CALL(compare), CALL(link_set), CALL(link_start), CALL(link_take), CALL(link_done), CALL(link_timeout), CALL(link_stop), CALL(link_status), CALL(measure),
 };
 
@@ -68,11 +77,23 @@ static __attribute__((noinline)) size_t depth(void (*call)(void))
     return ROOM - kept;
 }
 
+/* The trace: the Announce twice, the second time under the next number. */
+static void put_trace(void)
+{
+    for (int b = 0; b < 2; b++) {
+        announce[31]++;
+        recording[DZ_RECORDING_END] = 0;
+        dz_trace_record(recording, open, PORT, now, announce, sizeof announce, block, &number);
+        dz_trace_finish(recording, open, trace + b * DZ_BLOCK_OCTETS, &number);
+    }
+}
+
 int main(void)
 {
     dz_write_suffix(5, magic, suffix);
     dz_write(announce, sizeof announce, message, suffix, sizeof suffix, magic, &number);
     dz_write_link(frame, sizeof frame, signaling, lock, magic, &number);
+    put_trace();
     for (uint64_t i = 0; i < RUN; i++) run[i * DZ_CANDIDATE_WORDS + DZ_C_STEPS] = RUN - i, run[i * DZ_CANDIDATE_WORDS + DZ_C_PORT] = i % DZ_PORTS + 1;
     for (size_t i = 0; i < sizeof calls / sizeof *calls; i++) printf("%s %zu\n", calls[i].name, depth(calls[i].call));
     return 0;

@@ -9,6 +9,11 @@
 static uint64_t ports[DZ_PORTS_WORDS]; /* zeroed: a fresh clock */
 static uint64_t links[DZ_LINKS_WORDS]; /* zeroed: eighteen links in IDLE */
 
+static uint64_t recording[DZ_RECORDING_WORDS]; /* zeroed: a fresh recording .. */
+static uint8_t open[DZ_BLOCK_OCTETS];          /* .. with its open block .. */
+static uint8_t trace[8 * DZ_BLOCK_OCTETS];     /* .. and the blocks that came out of it */
+static size_t traced;
+
 static const uint64_t our_clock = 0x00B0AEFFFE000001;
 static const uint64_t master_a = 0x00B0AEFFFE0000AA;
 static const uint64_t master_b = 0x00B0AEFFFE0000BB;
@@ -41,11 +46,19 @@ static size_t announce(uint8_t out[128], uint64_t sender, uint16_t sequence, uin
     return dz_write(out, 128, message, suffix, sizeof suffix, magic, &written) == DZ_OK ? (size_t)written : 0;
 }
 
-/* An Announce arrives: what taking it answers, as text. */
+/* Records a message; a block that is full goes behind those of the trace. */
+static void record(uint64_t port, uint64_t time, const uint8_t *octets, size_t length)
+{
+    uint64_t closed;
+    if (dz_trace_record(recording, open, port, time, octets, length, trace + traced, &closed) == DZ_OK && closed) traced += DZ_BLOCK_OCTETS;
+}
+
+/* An Announce arrives and is recorded: what taking it answers, as text. */
 static const char *arrives(uint64_t port, uint64_t time, uint64_t sender, uint16_t sequence, uint8_t priority1)
 {
     uint8_t octets[128];
     size_t length = announce(octets, sender, sequence, priority1);
+    record(port, time, octets, length);
     return dz_refusal_text(dz_take(ports, port, time, octets, length, domain, our_clock, magic));
 }
 
@@ -95,7 +108,7 @@ static void two_cards(void)
     const uint64_t none[DZ_FOUND_WORDS] = {0};
     uint64_t best3[DZ_FOUND_WORDS], best7[DZ_FOUND_WORDS], here[DZ_LIST_WORDS], there[DZ_LIST_WORDS], list[DZ_LIST_WORDS];
     uint64_t a[DZ_SET_WORDS], b[DZ_SET_WORDS], comparison, decision;
-    for (uint16_t sequence = 1; sequence <= 2; sequence++) arrives(7, 4 * second, master_b, sequence, 100);
+    for (uint16_t sequence = 1; sequence <= 3; sequence++) arrives(7, 4 * second, master_b, sequence, 100);
     dz_best(ports, 3, 4 * second, best3);
     dz_best(ports, 7, 4 * second, best7);
     received(a, best3 + DZ_FOUND_CANDIDATE);
@@ -116,17 +129,35 @@ static void two_cards(void)
     printf(", port 5: %s\n", dz_decision_text(decision));
 }
 
-/* All eighteen ports in one call, and whom the clock follows. */
-static void every_port(void)
+/* All eighteen ports of a clock in one call, and whom it follows. */
+static void every_port(const uint64_t clock[DZ_PORTS_WORDS], uint64_t time)
 {
     const uint64_t own[DZ_OWN_WORDS] = DZ_OWN_DEFAULT(our_clock);
     uint8_t decisions[DZ_PORTS];
     uint64_t list[DZ_LIST_WORDS], parent[DZ_FOUND_WORDS];
-    printf("all ports: %s,", dz_refusal_text(dz_decide_all(ports, 4 * second, own, decisions, list)));
+    printf("all ports: %s,", dz_refusal_text(dz_decide_all(clock, time, own, decisions, list)));
     for (int p = 1; p <= DZ_PORTS; p++) printf(" %s", dz_decision_text(decisions[p - 1]));
     printf("\n");
     dz_parent(own, list, parent);
     if (parent[DZ_FOUND]) show("parent", parent + DZ_FOUND_CANDIDATE);
+}
+
+/* What was recorded is looked into, and replayed on a clock with the same settings: it decides the same. A damaged block is refused. */
+static void replaying(void)
+{
+    static uint64_t again[DZ_PORTS_WORDS];
+    uint64_t closed, entry[DZ_FOUND_ENTRY_WORDS], last = 0;
+    if (dz_trace_finish(recording, open, trace + traced, &closed) == DZ_OK && closed) traced += DZ_BLOCK_OCTETS;
+    printf("trace of %zu octets", traced);
+    for (size_t b = 0; b < traced; b += DZ_BLOCK_OCTETS)
+        for (uint64_t at = 0; dz_trace_walk(trace + b, at, entry) == DZ_OK && entry[DZ_FOUND]; at = entry[DZ_N_END])
+            printf(", port %" PRIu64 " at %" PRIu64 " s", entry[DZ_N_PORT], entry[DZ_N_TIME] / second);
+    dz_set_interval(again, 3, 1);
+    printf("\nreplayed: %s", dz_refusal_text(dz_replay(again, trace, traced, domain, our_clock, magic, &last)));
+    printf(", as it was live: %s\n", memcmp(again, ports, sizeof ports) == 0 ? "yes" : "no");
+    every_port(again, last);
+    trace[100] ^= 1;
+    printf("damaged: %s\n", dz_refusal_text(dz_replay(again, trace, traced, domain, our_clock, magic, &last)));
 }
 
 /* What was written is read back; cut in half, or of PTP version 1, it is refused. */
@@ -203,7 +234,8 @@ int main(void)
     }
     senders();
     two_cards();
-    every_port();
+    every_port(ports, 4 * second);
+    replaying();
     reading();
     linking();
     measuring();

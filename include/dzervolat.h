@@ -49,7 +49,7 @@ extern "C" {
 /* Rises whenever a call, a constant, a place in words or the meaning of one changes; within one number all of it stays. A host compiled with one
    number must not run with a library of another: dz_version() == DZ_VERSION is worth a test at start. State that was kept from a library of another
    number is no longer state. */
-#define DZ_VERSION 4
+#define DZ_VERSION 5
 
 /* What every call returns: 0, or the number of its refusal in the low eight bits and, of DZ_REFUSED_TLV and DZ_REFUSED_WRBAD, a place above them. It is
    64 bits wide on every processor. */
@@ -85,14 +85,16 @@ enum dz_refusal {
     DZ_REFUSED_PORT = 8,      /* port outside 1 to 18 */
     DZ_REFUSED_DOMAIN = 9,    /* domainNumber is not the set one */
     DZ_REFUSED_OWN = 10,      /* the sender's clockIdentity is our own */
-    DZ_REFUSED_BACKWARD = 11, /* time below this port's last accepted time */
+    DZ_REFUSED_BACKWARD = 11, /* time below this port's last accepted time, in recording below the last recorded one */
     DZ_REFUSED_STALE = 12,    /* a live sender, and its sequenceId is not newer */
     DZ_REFUSED_FULL = 13,     /* a new sender, and 16 live records on the port */
     DZ_REFUSED_RANGE = 14,    /* a number outside a limit of delay and offset */
     DZ_REFUSED_UNRANKED = 15, /* a list to merge or decide by is not a ranked list */
     DZ_REFUSED_ROOM = 16,     /* output buffer smaller than the message */
-    DZ_REFUSED_MANY = 17,     /* more than 288 candidates, or messages of a burst */
-    DZ_REFUSED_FIELD = 18     /* a value does not fit its field, would be refused when read, or a setting is out of range */
+    DZ_REFUSED_MANY = 17,     /* more than 288 candidates, or messages of a burst; more blocks than there are numbers */
+    DZ_REFUSED_FIELD = 18,    /* a value does not fit its field, would be refused when read, or a setting is out of range */
+    DZ_REFUSED_LONG = 19,     /* a message to record has more than 485 octets */
+    DZ_REFUSED_BLOCK = 20     /* a block of a trace: its check, layout, number or times are wrong */
 };
 
 #define DZ_PORTS 18 /* numbered from 1 */
@@ -122,6 +124,8 @@ static inline const char *dz_refusal_text(dz_answer answer)
     case DZ_REFUSED_ROOM: return "ROOM";
     case DZ_REFUSED_MANY: return "MANY";
     case DZ_REFUSED_FIELD: return "FIELD";
+    case DZ_REFUSED_LONG: return "LONG";
+    case DZ_REFUSED_BLOCK: return "BLOCK";
     default: return "?";
     }
 }
@@ -449,6 +453,82 @@ dz_answer dz_parent(const uint64_t own[DZ_OWN_WORDS], const uint64_t list[DZ_LIS
 
 /* Two data sets compared as IEEE 1588-2008 compares them (*answer is of enum dz_comparison). Refuses 18 where a word does not fit. */
 dz_answer dz_compare(const uint64_t a[DZ_SET_WORDS], const uint64_t b[DZ_SET_WORDS], uint64_t *answer);
+
+/* ---- Traces: messages recorded, and replayed -------------------------------------------------------------------------------------- */
+
+/* Messages are recorded in blocks of 512 octets, in the order of their arrival, each with its time and port; blocks one behind the other are a trace. It is
+   octets alone, the same on every processor: check 0-1, block number 2-5, first record's time 6-13, record count 14-15, records from 16 on (time 8,
+   port 1, length 2, message), the rest zero; numbers big-endian. The check is 1 to 65,535 and makes the sum of the 256 16-bit words a multiple of 65,535. */
+#define DZ_BLOCK_OCTETS 512
+#define DZ_TRACE_LONGEST 485 /* octets of the longest message that a block has room for */
+
+/* A recording, beside its open block of DZ_BLOCK_OCTETS: zeroed words are a fresh one, whose blocks are numbered from 0; what the open block holds then
+   does not matter. To begin with another number, set DZ_RECORDING_NEXT and zero the others. */
+enum dz_recording {
+    DZ_RECORDING_NEXT = 0, /* the number of the next block that is opened, up to 4,294,967,295 */
+    DZ_RECORDING_LAST = 1, /* the last recorded time, nanoseconds */
+    DZ_RECORDING_END = 2,  /* where in the open block the next record goes, 0 where none is open */
+    DZ_RECORDING_WORDS = 3
+};
+
+/* Records a message that arrived on `port` at `time`, before or after it is handed to dz_take: what it says is not looked into. Each block is filled while the
+   next record fits; the record that does not closes it. Then *closed is 1 and `block` the closed block, to be written away; else *closed is 0 and `block`
+   as it was. Refuses, in this order: 8, 19 for a message of more than DZ_TRACE_LONGEST octets, 11 for a time below the last recorded one on any port, 17 where
+   a new block would be past number 4,294,967,295.
+
+   A host that records all that it takes, and the end of its trace:
+
+       static uint64_t recording[DZ_RECORDING_WORDS];                    // zeroed: a fresh recording
+       static uint8_t open[DZ_BLOCK_OCTETS];
+       uint8_t block[DZ_BLOCK_OCTETS];
+       uint64_t closed;
+       if (dz_trace_record(recording, open, port, now, octets, length, block, &closed) == DZ_OK && closed) write_away(block);
+       ..
+       if (dz_trace_finish(recording, open, block, &closed) == DZ_OK && closed) write_away(block);
+
+   Replayed with the same settings, a trace gives the records, candidates and decisions that were live, if they never changed meanwhile and every Announce that
+   was taken is in it; messages that were refused may be in it or not. */
+dz_answer dz_trace_record(uint64_t recording[DZ_RECORDING_WORDS], uint8_t open[DZ_BLOCK_OCTETS], uint64_t port, uint64_t time, const uint8_t *octets, size_t length, uint8_t block[DZ_BLOCK_OCTETS], uint64_t *closed);
+
+/* The open block as it would be closed now, and *closed is 1; where no record is in it *closed is 0 and `block` as it was. The recording goes on as if
+   this had not been asked. It refuses nothing. */
+dz_answer dz_trace_finish(const uint64_t recording[DZ_RECORDING_WORDS], const uint8_t open[DZ_BLOCK_OCTETS], uint8_t block[DZ_BLOCK_OCTETS], uint64_t *closed);
+
+/* A record of a block, behind the word DZ_FOUND. */
+enum dz_entry {
+    DZ_N_TIME = 1,   /* when its message arrived, nanoseconds */
+    DZ_N_PORT = 2,   /* on which port */
+    DZ_N_AT = 3,     /* where in the block the message begins .. */
+    DZ_N_LENGTH = 4, /* .. how many octets it has .. */
+    DZ_N_END = 5,    /* .. and where it ends and the next record stands: DZ_N_AT + DZ_N_LENGTH */
+    DZ_FOUND_ENTRY_WORDS = 6
+};
+
+/* The record at octet `from` of a block, the first at 0. A loop goes through all records of a block that dz_replay_block takes, in order:
+
+       uint64_t entry[DZ_FOUND_ENTRY_WORDS];
+       for (uint64_t at = 0; dz_trace_walk(block, at, entry) == DZ_OK && entry[DZ_FOUND]; at = entry[DZ_N_END])
+           show(entry[DZ_N_TIME], entry[DZ_N_PORT], block + entry[DZ_N_AT], entry[DZ_N_LENGTH]);
+
+   There is none where no whole record of a port from 1 to 18 stands, whatever the block. It refuses nothing. */
+dz_answer dz_trace_walk(const uint8_t block[DZ_BLOCK_OCTETS], size_t from, uint64_t found[DZ_FOUND_ENTRY_WORDS]);
+
+/* What a reader keeps from block to block; zeroed, it has read none. */
+enum dz_reader {
+    DZ_READER_NEXT = 0, /* the lowest number that the next block may have */
+    DZ_READER_LAST = 1, /* the last record's time, nanoseconds */
+    DZ_READER_WORDS = 2
+};
+
+/* Replays the block in `octets` behind those that the reader has read: its messages are taken, in their order, as dz_take takes each, and those that are
+   refused are passed over. A replay begins with `ports` and `reader` zeroed, and the intervals set as they were when the trace was recorded. Refuses 20 where the
+   block's check, its layout (another length than DZ_BLOCK_OCTETS too), its number or its times are wrong. */
+dz_answer dz_replay_block(uint64_t ports[DZ_PORTS_WORDS], uint64_t reader[DZ_READER_WORDS], const uint8_t *octets, size_t length, uint8_t domain, uint64_t clock, uint16_t magic);
+
+/* Replays a whole trace in one call, from fresh records: what `ports` kept is forgotten but for the intervals, which are settings. *last is the time of the last
+   record, 0 where the trace is empty: a time for dz_decide_all. Refuses 20 where dz_replay_block would refuse one of its blocks, a short one at the end too;
+   all of them are looked at first. */
+dz_answer dz_replay(uint64_t ports[DZ_PORTS_WORDS], const uint8_t *octets, size_t length, uint8_t domain, uint64_t clock, uint16_t magic, uint64_t *last);
 
 /* ---- White Rabbit links -------------------------------------------------------------------------------------------------------- */
 

@@ -21,6 +21,8 @@ struct clock {
     uint16_t magic;
     uint64_t ports[DZ_PORTS_WORDS];
     uint64_t links[DZ_LINKS_WORDS];
+    uint64_t recording[DZ_RECORDING_WORDS];
+    uint8_t open[DZ_BLOCK_OCTETS]; /* the recording's open block */
 };
 
 extern const struct clock fresh_clock;
@@ -103,6 +105,7 @@ call call_read, call_lookup, call_walk, call_suffix, call_linkmessage, call_orig
 call call_write, call_signal, call_suffixtlv;                                                     /* writing.c */
 call call_take, call_burst, call_candidates, call_best, call_records;                             /* records.c */
 call call_compare, call_rank, call_merge, call_decide, call_all, call_parent;                     /* ranking.c */
+call call_record, call_trace, call_recording, call_replay;                                        /* traces.c */
 call call_link;                                                                                   /* links.c */
 call call_delay;                                                                                  /* delay.c */
 

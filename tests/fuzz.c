@@ -3,8 +3,8 @@
 
    After each call all that was lent to it is compared with what it was: a refusal has changed nothing, an answer has changed only what it
    may, not a word beside it. A call gives no number that it cannot give. What can be said without the engine is said here over again: which words are
-   too wide for their fields, which ports are none, which lists are ranked; then the number is the one of the header, in its order, and
-   nothing is cut. Answers are held against one another where the rules tie them together.
+   too wide for their fields, which ports are none, which lists are ranked, which blocks of a trace are sound; then the number is the one of the header, in
+   its order, and nothing is cut. Answers are held against one another where the rules tie them together.
 
    The calls are those of histories of several kinds: with all of it by chance, with senders that mostly repeat themselves (12), with runs of about as many
    candidates as may be ranked and bursts of about as many messages as one may hold (17), and on words that no call has left. fuzz [CALLS [SEED]] ends with status 1 at the first thing that is wrong. */
@@ -64,18 +64,20 @@ static void set_to_edge(uint64_t *w, size_t n)
 /* ---- what is lent -------------------------------------------------------------------------------------------------------------- */
 
 /* Each thing that is lent stands in a box of its own, with words before and behind it that no call may touch. */
-enum box { PORTS, LINKS, FRAME, FOLLOW, TAIL, OUT, RING, BURST, MESSAGE, LINK, RUN, LIST, OTHER, MERGED, TOGETHER, OWN, BEST, SET, RIVAL, EXCHANGE, RECORD, FOUND, STEP, DECISIONS, ANSWER, BOXES };
-enum { GUARD = 4, LONGEST_RUN = 300, LONGEST_BURST = 300, OCTETS = 640, RING_OCTETS = 4096, BOX_WORDS = 64 + GUARD };
+enum box { PORTS, LINKS, FRAME, FOLLOW, TAIL, OUT, RING, BURST, MESSAGE, LINK, RUN, LIST, OTHER, MERGED, TOGETHER, OWN, BEST, SET, RIVAL, EXCHANGE, RECORD, FOUND, STEP, DECISIONS, ANSWER,
+    RECORDING, OPEN, BLOCK, TRACE, READER, REPLAYED, BOXES };
+enum { GUARD = 4, LONGEST_RUN = 300, LONGEST_BURST = 300, OCTETS = 640, RING_OCTETS = 4096, TRACE_OCTETS = 12 * DZ_BLOCK_OCTETS, BOX_WORDS = DZ_BLOCK_OCTETS / 8 + GUARD };
 
 static const size_t sizes[BOXES] = {
     [PORTS] = DZ_PORTS_WORDS, [LINKS] = DZ_LINKS_WORDS, [RUN] = LONGEST_RUN * DZ_CANDIDATE_WORDS, [FRAME] = OCTETS / 8, [FOLLOW] = OCTETS / 8, [TAIL] = OCTETS / 8, [OUT] = OCTETS / 8,
-    [RING] = RING_OCTETS / 8, [BURST] = LONGEST_BURST * DZ_BURST_WORDS,
+    [RING] = RING_OCTETS / 8, [BURST] = LONGEST_BURST * DZ_BURST_WORDS, [TRACE] = TRACE_OCTETS / 8, [REPLAYED] = DZ_PORTS_WORDS,
 };
-static uint64_t memory[DZ_PORTS_WORDS + DZ_LINKS_WORDS + LONGEST_RUN * DZ_CANDIDATE_WORDS + 4 * OCTETS / 8 + RING_OCTETS / 8 + LONGEST_BURST * DZ_BURST_WORDS + BOXES * BOX_WORDS + GUARD];
+static uint64_t memory[2 * DZ_PORTS_WORDS + DZ_LINKS_WORDS + LONGEST_RUN * DZ_CANDIDATE_WORDS + 4 * OCTETS / 8 + (RING_OCTETS + TRACE_OCTETS) / 8 + LONGEST_BURST * DZ_BURST_WORDS
+    + BOXES * BOX_WORDS + GUARD];
 static uint64_t before[sizeof memory / 8];
 static uint64_t *boxes[BOXES];
 static uint8_t *changeable[BOXES]; /* the end of what a call may change, from the box's first octet on */
-static uint64_t calls, answers[DZ_REFUSED_FIELD + 1];
+static uint64_t calls, answers[DZ_REFUSED_BLOCK + 1];
 static const char *calling = "";
 
 static void lay_out(void)
@@ -161,7 +163,7 @@ static dz_answer end(dz_answer answer, uint32_t given)
     calls++;
     uint64_t number = dz_number(answer);
     int placed = number == DZ_REFUSED_TLV || number == DZ_REFUSED_WRBAD;
-    expect(number <= DZ_REFUSED_FIELD, "a number past 18");
+    expect(number <= DZ_REFUSED_BLOCK, "a number past 20");
     answers[number]++;
     expect(given >> number & 1, "a number that it cannot give");
     expect(placed ? dz_place(answer) >= 44 && dz_place(answer) < 65536 : dz_place(answer) == 0, "a place that its number has not");
@@ -179,6 +181,19 @@ static dz_answer end(dz_answer answer, uint32_t given)
 #define READING (CAN(DZ_OK) | CAN(DZ_REFUSED_SHORT) | CAN(DZ_REFUSED_VERSION) | CAN(DZ_REFUSED_TYPE) | CAN(DZ_REFUSED_LENGTH) | CAN(DZ_REFUSED_STAMP) | CAN(DZ_REFUSED_TLV) | CAN(DZ_REFUSED_WRBAD))
 
 /* ---- fields -------------------------------------------------------------------------------------------------------------------- */
+
+/* A number of so many octets, written and read. */
+static void put(uint8_t *o, size_t n, uint64_t w)
+{
+    while (n > 0) o[--n] = (uint8_t)w, w >>= 8;
+}
+
+static uint64_t get(const uint8_t *o, size_t n)
+{
+    uint64_t w = 0;
+    for (size_t i = 0; i < n; i++) w = w << 8 | o[i];
+    return w;
+}
 
 /* How many bits of a word its field can hold, place by place; 0 for a word that is not looked at. Ports of ours are told apart from fields. */
 enum { ANY = 64, SIGNED = 128, WIDTH = 127 };
@@ -272,6 +287,97 @@ static int list_fits(const uint64_t *list)
     for (size_t i = 0; i < list[DZ_LIST_COUNT]; i++)
         if (!fits(list + DZ_LIST_AT(i), candidate_bits, DZ_CANDIDATE_WORDS)) return 0;
     return 1;
+}
+
+/* ---- blocks -------------------------------------------------------------------------------------------------------------------- */
+
+/* The head of a block, its check first, and what stands before the message of a record, its time first. */
+enum { NUMBER_AT = 2, FIRST_TIME_AT = 6, COUNT_AT = 14, RECORDS_AT = 16 };
+enum { PORT_AT = 8, LENGTH_AT = 9, MESSAGE_AT = 11 };
+static const uint64_t last_number = 4294967295;
+
+static uint64_t sum(const uint8_t *b)
+{
+    uint64_t v = 0;
+    for (size_t i = 0; i < DZ_BLOCK_OCTETS; i += 2) v += get(b + i, 2);
+    return v;
+}
+
+/* Gives a block its check. */
+static void seal(uint8_t *b)
+{
+    put(b, 2, 0);
+    put(b, 2, 65535 - sum(b) % 65535);
+}
+
+/* A 16-bit word of a block but its check. */
+static uint8_t *any_word(uint8_t *b)
+{
+    return b + 2 + 2 * below(DZ_BLOCK_OCTETS / 2 - 1);
+}
+
+/* Moves the check of a block into another word: the others are then a multiple of 65,535 by themselves, and the check is 65,535. With 0 in its place the
+   sum is a multiple too, but 0 is no check. */
+static void move_check(uint8_t *b)
+{
+    uint8_t *word = any_word(b);
+    put(word, 2, (get(word, 2) + get(b, 2)) % 65535);
+    put(b, 2, one_in(2) ? 0 : 65535);
+}
+
+/* Where the record ends that begins at an octet; 0 where no whole one of a port does. */
+static size_t record_end(const uint8_t *b, uint64_t at)
+{
+    if (at > DZ_BLOCK_OCTETS - MESSAGE_AT || !is_port(b[at + PORT_AT])) return 0;
+    size_t stop = at + MESSAGE_AT + get(b + at + LENGTH_AT, 2);
+    return stop <= DZ_BLOCK_OCTETS ? stop : 0;
+}
+
+/* Whether octets are a block that may be replayed behind those that a reader has read; then the reader has read it too. */
+static int is_sound(const uint8_t *b, size_t n, uint64_t reader[DZ_READER_WORDS])
+{
+    uint64_t t = reader[DZ_READER_LAST];
+    size_t at = RECORDS_AT;
+    if (n != DZ_BLOCK_OCTETS || get(b, 2) == 0 || sum(b) % 65535 != 0) return 0;
+    uint64_t number = get(b + NUMBER_AT, 4), count = get(b + COUNT_AT, 2);
+    if (number < reader[DZ_READER_NEXT] || count == 0 || get(b + FIRST_TIME_AT, 8) != get(b + at, 8)) return 0;
+    for (uint64_t i = 0; i < count; i++) {
+        if (!record_end(b, at) || get(b + at, 8) < t) return 0;
+        t = get(b + at, 8);
+        at = record_end(b, at);
+    }
+    while (at < DZ_BLOCK_OCTETS)
+        if (b[at++] != 0) return 0;
+    reader[DZ_READER_NEXT] = number + 1;
+    reader[DZ_READER_LAST] = t;
+    return 1;
+}
+
+/* How many of the octets from one on are its block. */
+static size_t block_octets(size_t n, size_t at)
+{
+    return n - at < DZ_BLOCK_OCTETS ? n - at : DZ_BLOCK_OCTETS;
+}
+
+/* Whether octets are a trace that may be replayed, and its last record's time. */
+static int is_trace(const uint8_t *trace, size_t n, uint64_t *last)
+{
+    uint64_t reader[DZ_READER_WORDS] = {0};
+    for (size_t at = 0; at < n; at += DZ_BLOCK_OCTETS)
+        if (!is_sound(trace + at, block_octets(n, at), reader)) return 0;
+    *last = reader[DZ_READER_LAST];
+    return 1;
+}
+
+/* Of a recording: whether a block is open, and whether a message of n octets fits into it. */
+static int is_open(uint64_t next)
+{
+    return next >= RECORDS_AT;
+}
+
+static int has_place(uint64_t next, size_t n)
+{
+    return is_open(next) && next <= DZ_BLOCK_OCTETS && n + MESSAGE_AT <= DZ_BLOCK_OCTETS - next;
 }
 
 /* ---- the calls, and the number that each must give as far as it is known without the engine ------------------------------------ */
@@ -415,6 +521,65 @@ static dz_answer take_burst(size_t lent, size_t n)
     may(PORTS, DZ_PORTS_WORDS), may(BURST, n * DZ_BURST_WORDS);
     dz_answer answer = end(dz_take_burst(words(PORTS), octets(RING), lent, (uint64_t(*)[DZ_BURST_WORDS])words(BURST), n, own_domain, own_clock, magic), CAN(DZ_OK) | CAN(DZ_REFUSED_MANY));
     return must_be(answer, n > DZ_BURST_MOST ? DZ_REFUSED_MANY : DZ_OK);
+}
+
+/* The number that recording must give. */
+static dz_answer recording_answer(uint64_t port, uint64_t t, size_t n)
+{
+    const uint64_t *w = words(RECORDING);
+    if (!is_port(port)) return DZ_REFUSED_PORT;
+    if (n > DZ_TRACE_LONGEST) return DZ_REFUSED_LONG;
+    if (t < w[DZ_RECORDING_LAST]) return DZ_REFUSED_BACKWARD;
+    return !has_place(w[DZ_RECORDING_END], n) && w[DZ_RECORDING_NEXT] > last_number ? DZ_REFUSED_MANY : DZ_OK;
+}
+
+static dz_answer trace_record(uint64_t port, uint64_t t, size_t n)
+{
+    dz_answer right = recording_answer(port, t, n);
+    begin("dz_trace_record");
+    may(RECORDING, DZ_RECORDING_WORDS), may(OPEN, DZ_BLOCK_OCTETS / 8), may(BLOCK, DZ_BLOCK_OCTETS / 8), may(ANSWER, 1);
+    dz_answer answer = dz_trace_record(words(RECORDING), octets(OPEN), port, t, octets(FRAME), n, octets(BLOCK), words(ANSWER));
+    return must_be(end(answer, CAN(DZ_OK) | CAN(DZ_REFUSED_PORT) | CAN(DZ_REFUSED_LONG) | CAN(DZ_REFUSED_BACKWARD) | CAN(DZ_REFUSED_MANY)), right);
+}
+
+static void trace_finish(void)
+{
+    begin("dz_trace_finish");
+    may(BLOCK, DZ_BLOCK_OCTETS / 8), may(ANSWER, 1);
+    end(dz_trace_finish(words(RECORDING), octets(OPEN), octets(BLOCK), words(ANSWER)), CAN(DZ_OK));
+}
+
+static void trace_walk(size_t block, uint64_t from)
+{
+    begin("dz_trace_walk");
+    may(FOUND, DZ_FOUND_ENTRY_WORDS);
+    end(dz_trace_walk(octets(TRACE) + block, from, words(FOUND)), CAN(DZ_OK));
+}
+
+/* A block of the trace, or so many octets from its first on. */
+static dz_answer replay_block(size_t block, size_t n)
+{
+    uint64_t reader[DZ_READER_WORDS];
+    memcpy(reader, words(READER), sizeof reader);
+    int sound = is_sound(octets(TRACE) + block, n, reader);
+    begin("dz_replay_block");
+    may(REPLAYED, DZ_PORTS_WORDS), may(READER, DZ_READER_WORDS);
+    dz_answer answer = dz_replay_block(words(REPLAYED), words(READER), octets(TRACE) + block, n, own_domain, own_clock, magic);
+    must_be(end(answer, CAN(DZ_OK) | CAN(DZ_REFUSED_BLOCK)), sound ? DZ_OK : DZ_REFUSED_BLOCK);
+    expect(same_words(words(READER), reader, DZ_READER_WORDS), "a reader that has read another block");
+    return answer;
+}
+
+static dz_answer replay(size_t n)
+{
+    uint64_t last = 0;
+    int sound = is_trace(octets(TRACE), n, &last);
+    begin("dz_replay");
+    may(REPLAYED, DZ_PORTS_WORDS), may(ANSWER, 1);
+    dz_answer answer = end(dz_replay(words(REPLAYED), octets(TRACE), n, own_domain, own_clock, magic, words(ANSWER)), CAN(DZ_OK) | CAN(DZ_REFUSED_BLOCK));
+    must_be(answer, sound ? DZ_OK : DZ_REFUSED_BLOCK);
+    expect(!sound || words(ANSWER)[0] == last, "another time than the last record's");
+    return answer;
 }
 
 static dz_answer set_interval(uint64_t port, int8_t k)
@@ -769,11 +934,6 @@ static void expect_taken(const uint64_t *m, uint64_t flags, uint64_t port, uint6
     expect(same_words(r + DZ_R_PRIORITY1, m + DZ_M_PRIORITY1, DZ_M_STEPS - DZ_M_PRIORITY1 + 1) && r[DZ_R_WRFLAGS] == flags, "a record of other data");
 }
 
-static void put(uint8_t *o, size_t n, uint64_t w)
-{
-    while (n > 0) o[--n] = (uint8_t)w, w >>= 8;
-}
-
 /* Makes the frame one of a sender that the port has a record of, its number at an edge of what is newer. */
 static void repeat_sender(uint64_t port)
 {
@@ -867,6 +1027,304 @@ static void try_bursts(void)
         must_be(row[DZ_BURST_ANSWER], take_alone(other, was, lent));
     }
     expect(same_words(words(PORTS), other, DZ_PORTS_WORDS), "a burst leaves other words than its messages do one after another");
+}
+
+/* Words of a recording that no call need have left, mostly at the edges of what they say. */
+static void any_recording(void)
+{
+    static const uint64_t ends[] = {0, RECORDS_AT - 1, RECORDS_AT, RECORDS_AT + 1, DZ_BLOCK_OCTETS - MESSAGE_AT, DZ_BLOCK_OCTETS - MESSAGE_AT + 1, DZ_BLOCK_OCTETS, DZ_BLOCK_OCTETS + 1};
+    uint64_t *w = words(RECORDING);
+    w[DZ_RECORDING_NEXT] = one_in(2) ? last_number - 1 + below(4) : edge();
+    w[DZ_RECORDING_LAST] = one_in(2) ? now : edge();
+    w[DZ_RECORDING_END] = one_in(8) ? edge() : one_in(4) ? below(DZ_BLOCK_OCTETS + 2) : ends[below(sizeof ends / sizeof *ends)];
+    fill(words(OPEN), DZ_BLOCK_OCTETS / 8);
+    if (one_in(4)) seal(octets(OPEN)), move_check(octets(OPEN));
+}
+
+/* A message to record: a frame, so many octets as there is room for in the open block, one more, or a number of them at another edge. */
+static size_t any_recorded(void)
+{
+    static const size_t edges[] = {0, 1, DZ_TRACE_LONGEST - 1, DZ_TRACE_LONGEST, DZ_TRACE_LONGEST + 1, OCTETS};
+    size_t n = any_frame(FRAME, one_in(12) ? any_type() : DZ_ANNOUNCE);
+    uint64_t room = DZ_BLOCK_OCTETS - MESSAGE_AT - words(RECORDING)[DZ_RECORDING_END];
+    switch (below(8)) {
+    case 0: return edges[below(sizeof edges / sizeof *edges)];
+    case 1: return room < DZ_BLOCK_OCTETS ? room + below(2) : n;
+    default: return n;
+    }
+}
+
+/* A time to record it at: that of the last record, one below, or later. */
+static uint64_t any_recorded_time(void)
+{
+    uint64_t last = words(RECORDING)[DZ_RECORDING_LAST];
+    return one_in(4) ? last - below(2) : one_in(64) ? edge() : last + below(20000000);
+}
+
+/* The open block has come out with its check where it is to, and nothing elsewhere. */
+static void expect_closed(int closed)
+{
+    uint8_t right[DZ_BLOCK_OCTETS];
+    memcpy(right, words_before(closed ? OPEN : BLOCK), sizeof right);
+    if (closed) seal(right);
+    expect(words(ANSWER)[0] == (uint64_t)closed, "a block has come out, or none, against its word");
+    expect(!memcmp(octets(BLOCK), right, sizeof right), "another block has come out");
+}
+
+/* A message that was recorded stands behind those of the open block; where it does not fit, it is the first of a new one, and the old one has come out. */
+static void expect_recorded(uint64_t port, uint64_t t, size_t n)
+{
+    const uint64_t *w = words(RECORDING), *was = words_before(RECORDING);
+    int fitted = has_place(was[DZ_RECORDING_END], n);
+    size_t at = fitted ? was[DZ_RECORDING_END] : RECORDS_AT;
+    uint8_t right[DZ_BLOCK_OCTETS] = {0};
+    if (fitted) memcpy(right, words_before(OPEN), sizeof right);
+    else put(right + NUMBER_AT, 4, was[DZ_RECORDING_NEXT]), put(right + FIRST_TIME_AT, 8, t);
+    put(right + COUNT_AT, 2, get(right + COUNT_AT, 2) + 1);
+    put(right + at, 8, t);
+    put(right + at + PORT_AT, 1, port);
+    put(right + at + LENGTH_AT, 2, n);
+    memcpy(right + at + MESSAGE_AT, octets(FRAME), n);
+    expect(!memcmp(octets(OPEN), right, sizeof right), "another open block");
+    expect(w[DZ_RECORDING_NEXT] == was[DZ_RECORDING_NEXT] + !fitted && w[DZ_RECORDING_LAST] == t && w[DZ_RECORDING_END] == at + MESSAGE_AT + n, "other words of a recording");
+    expect_closed(!fitted && is_open(was[DZ_RECORDING_END]));
+}
+
+static dz_answer record_frame(uint64_t port, uint64_t t, size_t n)
+{
+    dz_answer answer = trace_record(port, t, n);
+    if (answer == DZ_OK) expect_recorded(port, t, n);
+    return answer;
+}
+
+/* Gives the open block, and the recording goes on. */
+static void finish(void)
+{
+    trace_finish();
+    expect_closed(is_open(words(RECORDING)[DZ_RECORDING_END]));
+}
+
+/* Messages recorded under words of every kind. */
+static void try_recording(void)
+{
+    any_recording();
+    for (uint64_t n = 1 + below(8); n > 0; n--) {
+        uint64_t port = any_port(), t = any_recorded_time();
+        record_frame(port, t, any_recorded());
+        if (one_in(4)) finish();
+    }
+}
+
+/* Puts the block that came out behind the others of the trace. */
+static size_t keep_block(size_t n)
+{
+    if (!words(ANSWER)[0]) return n;
+    memcpy(octets(TRACE) + n, octets(BLOCK), DZ_BLOCK_OCTETS);
+    return n + DZ_BLOCK_OCTETS;
+}
+
+/* A trace from a fresh recording on, and how many octets it has. A live clock takes what is recorded; of what it refuses some is left out. Now and then
+   most messages are of an octet or none, so that a block has many. */
+static size_t any_trace(uint64_t live[DZ_PORTS_WORDS])
+{
+    size_t n = 0;
+    int dense = one_in(8);
+    memset(words(RECORDING), 0, DZ_RECORDING_WORDS * 8);
+    if (one_in(4)) words(RECORDING)[DZ_RECORDING_NEXT] = last_number - below(6);
+    for (uint64_t left = below(dense ? 150 : 60); left > 0 && n < TRACE_OCTETS - 2 * DZ_BLOCK_OCTETS; left--) {
+        uint64_t port = busy_port(), t = any_recorded_time();
+        size_t length = dense && !one_in(16) ? below(2) : any_recorded();
+        int taken = recording_answer(port, t, length) == DZ_OK && dz_take(live, port, t, octets(FRAME), length, own_domain, own_clock, magic) == DZ_OK;
+        if (!taken && one_in(3)) continue;
+        if (record_frame(port, t, length) == DZ_OK) n = keep_block(n);
+    }
+    finish();
+    return keep_block(n);
+}
+
+/* A number beside another, or one at an edge. */
+static uint64_t nearby(uint64_t w)
+{
+    return one_in(2) ? w + below(3) - 1 : edge();
+}
+
+/* Where a record of a block stands, mostly. */
+static size_t any_record(const uint8_t *b)
+{
+    size_t at = RECORDS_AT;
+    while (!one_in(4) && at + MESSAGE_AT + get(b + at + LENGTH_AT, 2) <= DZ_BLOCK_OCTETS - MESSAGE_AT) at += MESSAGE_AT + get(b + at + LENGTH_AT, 2);
+    return at;
+}
+
+static void change_number(uint8_t *o, size_t n)
+{
+    put(o, n, nearby(get(o, n)));
+}
+
+/* Changes a field of a block, and mends its check. */
+static void change_field(uint8_t *b)
+{
+    size_t at = any_record(b), k = below(4);
+    switch (below(10)) {
+    case 0: change_number(b + NUMBER_AT, 4); break;
+    case 1: change_number(b + FIRST_TIME_AT, 8); break;
+    case 2: change_number(b + COUNT_AT, 2); break;
+    case 3: change_number(b + at, 8); break;
+    case 4: b[at + PORT_AT] = (uint8_t)(k / 2 * DZ_PORTS + k % 2); break; /* 0, 1, 18 or 19 */
+    case 5: change_number(b + at + LENGTH_AT, 2); break;
+    case 6: put(b + at + LENGTH_AT, 2, DZ_BLOCK_OCTETS - MESSAGE_AT - at + k - 1); break; /* to the end of the block, and past it */
+    case 7: b[DZ_BLOCK_OCTETS - 1 - (k % 2 ? 0 : below(64))] ^= 1; break;
+    case 8: memset(b + FIRST_TIME_AT, 0, DZ_BLOCK_OCTETS - FIRST_TIME_AT); break; /* no record */
+    default: /* the first time in the head and in the record */
+        change_number(b + FIRST_TIME_AT, 8);
+        memcpy(b + RECORDS_AT, b + FIRST_TIME_AT, 8);
+    }
+    seal(b);
+}
+
+/* Changes a word of a block; the check stays right where it was 0 or 65,535. */
+static void turn_word(uint8_t *b)
+{
+    uint8_t *word = any_word(b);
+    put(word, 2, get(word, 2) ? 0 : 65535);
+}
+
+static void exchange_blocks(uint8_t *a, uint8_t *b)
+{
+    uint8_t c[DZ_BLOCK_OCTETS];
+    memcpy(c, a, sizeof c);
+    memmove(a, b, sizeof c);
+    memcpy(b, c, sizeof c);
+}
+
+/* Damages a trace in one way; how many octets it has then. */
+static size_t damage_trace(size_t n)
+{
+    size_t blocks = n / DZ_BLOCK_OCTETS, i = below(blocks + !blocks), k = below(blocks + !blocks);
+    uint8_t *b = octets(TRACE) + i * DZ_BLOCK_OCTETS, *next = b + DZ_BLOCK_OCTETS;
+    if (!blocks) return below(DZ_BLOCK_OCTETS + 2); /* whatever octets are there */
+    switch (below(10)) {
+    case 0: change_octet(b, DZ_BLOCK_OCTETS); return n;
+    case 1: exchange_blocks(b, octets(TRACE) + k * DZ_BLOCK_OCTETS); return n;
+    case 2: return one_in(2) || n == TRACE_OCTETS ? below(n) : n + 1 + below(TRACE_OCTETS - n);
+    case 3: memmove(b, next, n - (i + 1) * DZ_BLOCK_OCTETS); return n - DZ_BLOCK_OCTETS;
+    case 4: memmove(next, b, TRACE_OCTETS - (i + 1) * DZ_BLOCK_OCTETS); return n <= TRACE_OCTETS - DZ_BLOCK_OCTETS ? n + DZ_BLOCK_OCTETS : n;
+    case 5: turn_word(b); return n;
+    case 6: move_check(b); return n;
+    default: change_field(b); return n;
+    }
+}
+
+/* Takes the records of a block on other words, one after another. */
+static void take_records(uint64_t other[DZ_PORTS_WORDS], const uint8_t *b)
+{
+    uint64_t entry[DZ_FOUND_ENTRY_WORDS], count = 0;
+    for (uint64_t at = 0; dz_trace_walk(b, at, entry) == DZ_OK && entry[DZ_FOUND]; at = entry[DZ_N_END], count++)
+        dz_take(other, entry[DZ_N_PORT], entry[DZ_N_TIME], b + entry[DZ_N_AT], entry[DZ_N_LENGTH], own_domain, own_clock, magic);
+    expect(count == get(b + COUNT_AT, 2), "a walk that meets more or fewer records than a block has");
+}
+
+/* A block that is replayed leaves the words that its messages leave one after another. */
+static void expect_block(size_t block, size_t n)
+{
+    static uint64_t other[DZ_PORTS_WORDS];
+    memcpy(other, words(REPLAYED), sizeof other);
+    if (replay_block(block, n) == DZ_OK) take_records(other, octets(TRACE) + block);
+    expect(same_words(words(REPLAYED), other, DZ_PORTS_WORDS), "a block leaves other words than its messages do one after another");
+}
+
+/* A fresh clock, set as another one. */
+static void set_alike(uint64_t clock[DZ_PORTS_WORDS], const uint64_t *other)
+{
+    uint64_t told[DZ_STATUS_WORDS] = {0};
+    memset(clock, 0, DZ_PORTS_WORDS * 8);
+    for (uint64_t p = 1; p <= DZ_PORTS; p++) {
+        dz_status(other, p, told);
+        dz_set_interval(clock, p, (int8_t)(int64_t)told[DZ_STATUS_INTERVAL]);
+    }
+}
+
+/* Whether two clocks tell the same of their ports and slots. */
+static int tell_same(const uint64_t *a, const uint64_t *b)
+{
+    uint64_t x[DZ_RECORD_WORDS] = {0}, y[DZ_RECORD_WORDS] = {0};
+    for (uint64_t p = 1; p <= DZ_PORTS; p++) {
+        dz_status(a, p, x), dz_status(b, p, y);
+        if (!same_words(x, y, DZ_STATUS_WORDS)) return 0;
+        for (size_t slot = 0; slot < DZ_SLOTS; slot++) {
+            dz_record(a, p, slot, x), dz_record(b, p, slot, y);
+            if (!same_words(x, y, DZ_RECORD_WORDS)) return 0;
+        }
+    }
+    return 1;
+}
+
+/* A trace replayed in one call, on the words of the moment, leaves what its blocks leave one after another on a clock that is fresh and set alike. Of words
+   that no call has left, the intervals may stand otherwise than a call sets them. */
+static dz_answer expect_replay(const uint64_t fresh[DZ_PORTS_WORDS], size_t n)
+{
+    static uint64_t whole[DZ_PORTS_WORDS];
+    memcpy(words(REPLAYED), words(PORTS), sizeof whole);
+    dz_answer answer = replay(n);
+    memcpy(whole, words(REPLAYED), sizeof whole);
+    memcpy(words(REPLAYED), fresh, sizeof whole);
+    memset(words(READER), 0, DZ_READER_WORDS * 8);
+    for (size_t at = 0; at < n; at += DZ_BLOCK_OCTETS) expect_block(at, block_octets(n, at));
+    if (answer == DZ_OK)
+        expect(kind == ANY_WORDS ? tell_same(whole, words(REPLAYED)) : same_words(whole, words(REPLAYED), DZ_PORTS_WORDS), "a trace leaves other words than its blocks do one after another");
+    return answer;
+}
+
+/* The record at an octet of a block is the one that stands there, or none. */
+static void expect_entry(size_t block, uint64_t from)
+{
+    const uint8_t *b = octets(TRACE) + block;
+    uint64_t at = from < RECORDS_AT ? RECORDS_AT : from, right[DZ_FOUND_ENTRY_WORDS] = {0};
+    if (record_end(b, at)) {
+        right[DZ_FOUND] = 1;
+        right[DZ_N_TIME] = get(b + at, 8);
+        right[DZ_N_PORT] = b[at + PORT_AT];
+        right[DZ_N_AT] = at + MESSAGE_AT;
+        right[DZ_N_LENGTH] = get(b + at + LENGTH_AT, 2);
+        right[DZ_N_END] = record_end(b, at);
+    }
+    trace_walk(block, from);
+    expect(same_words(words(FOUND), right, DZ_FOUND_ENTRY_WORDS), "another record than the one that stands there");
+}
+
+/* A block of the trace, behind a reader and on words of every kind, and its records. */
+static void try_block(size_t block)
+{
+    static const size_t lengths[] = {0, 1, DZ_BLOCK_OCTETS - 1, DZ_BLOCK_OCTETS + 1, 2 * DZ_BLOCK_OCTETS};
+    uint8_t *b = octets(TRACE) + block;
+    size_t n = one_in(8) ? lengths[below(sizeof lengths / sizeof *lengths)] : DZ_BLOCK_OCTETS;
+    memcpy(words(REPLAYED), words(PORTS), DZ_PORTS_WORDS * 8);
+    words(READER)[DZ_READER_NEXT] = nearby(get(b + NUMBER_AT, 4));
+    words(READER)[DZ_READER_LAST] = nearby(get(b + FIRST_TIME_AT, 8));
+    expect_block(block, n <= TRACE_OCTETS - block ? n : 0);
+    if (one_in(2)) change_field(b);
+    expect_entry(block, 0);
+    expect_entry(block, any_record(b));
+    expect_entry(block, one_in(4) ? edge() : below(DZ_BLOCK_OCTETS + 2));
+}
+
+/* A trace gives the clock that was live when it was recorded; damaged, it is refused, or is a trace of its own. */
+static void try_traces(void)
+{
+    static uint64_t fresh[DZ_PORTS_WORDS], live[DZ_PORTS_WORDS];
+    static uint8_t recorded[TRACE_OCTETS];
+    set_alike(fresh, words(PORTS));
+    memcpy(live, fresh, sizeof live);
+    size_t n = any_trace(live);
+    memcpy(recorded, octets(TRACE), sizeof recorded);
+    must_be(expect_replay(fresh, n), DZ_OK);
+    expect(same_words(words(REPLAYED), live, DZ_PORTS_WORDS), "a replay leaves another clock than the live one");
+    for (uint64_t left = below(5); left > 0; left--) {
+        memcpy(octets(TRACE), recorded, sizeof recorded);
+        size_t damaged = damage_trace(n);
+        expect_replay(fresh, one_in(4) ? damage_trace(damaged) : damaged);
+        try_block(below(n / DZ_BLOCK_OCTETS + 1) * DZ_BLOCK_OCTETS);
+    }
 }
 
 /* A port's slots, asked in each way that there is, tell the same. */
@@ -1024,18 +1482,12 @@ static void expect_round_trip(size_t at, size_t l)
     expect(!memcmp(octets(OUT) + at, octets(TAIL), l), "another tail");
 }
 
-/* A number of two octets. */
-static uint64_t two_octets(const uint8_t *o)
-{
-    return (uint64_t)o[0] << 8 | o[1];
-}
-
 /* Whether a whole TLV with L octets of data is a known White Rabbit message with a wrong data size. */
 static int is_misfit(const uint8_t *o, uint64_t l)
 {
     static const uint8_t form[] = {0x08, 0x00, 0x30, DZ_EXAMPLE_MAGIC >> 8, DZ_EXAMPLE_MAGIC & 0xFF, 1}, sizes[] = {0, 0, 0, 6, 16, 0};
-    if (two_octets(o) != 3 || l < 8 || memcmp(o + 4, form, sizeof form)) return 0;
-    uint64_t number = two_octets(o + 10);
+    if (get(o, 2) != 3 || l < 8 || memcmp(o + 4, form, sizeof form)) return 0;
+    uint64_t number = get(o + 10, 2);
     if (number == 0x2000) return l != 8 + 2;
     return number >= DZ_LINK_SLAVE_PRESENT && number <= DZ_LINK_WR_MODE_ON && l != 8u + sizes[number - DZ_LINK_SLAVE_PRESENT];
 }
@@ -1051,8 +1503,8 @@ static void expect_astray(size_t n, dz_answer read, uint64_t from)
         must_be(answer, read);
         return;
     }
-    uint64_t size = fixed_size(o[0] % 16), end = two_octets(o + 2), at = from < size ? size : from, left = at < end ? end - at : 0;
-    uint64_t l = left < 4 ? 0 : two_octets(o + at + 2);
+    uint64_t size = fixed_size(o[0] % 16), end = get(o + 2, 2), at = from < size ? size : from, left = at < end ? end - at : 0;
+    uint64_t l = left < 4 ? 0 : get(o + at + 2, 2);
     if (!left) {
         must_be(answer, DZ_OK);
         expect(!tlv[DZ_FOUND], "a TLV past the end of the message");
@@ -1062,7 +1514,7 @@ static void expect_astray(size_t n, dz_answer read, uint64_t from)
         must_be(answer, at << 8 | DZ_REFUSED_WRBAD);
     } else {
         must_be(answer, DZ_OK);
-        expect(tlv[DZ_FOUND] && tlv[DZ_TLV_AT] == at && tlv[DZ_TLV_TYPE] == two_octets(o + at) && tlv[DZ_TLV_LENGTH] == l, "another TLV than the one that stands there");
+        expect(tlv[DZ_FOUND] && tlv[DZ_TLV_AT] == at && tlv[DZ_TLV_TYPE] == get(o + at, 2) && tlv[DZ_TLV_LENGTH] == l, "another TLV than the one that stands there");
     }
 }
 
@@ -1273,8 +1725,8 @@ static void try_measuring(void)
 
 /* ---- all of them --------------------------------------------------------------------------------------------------------------- */
 
-static void (*const tries[])(void) = {try_announces, try_announces, try_announces, try_bursts, try_bursts, try_slots, try_intervals, try_best, try_deciding_all, try_deciding, try_ranking,
-    try_comparing, try_reading, try_origin, try_writing, try_writing_links, try_links, try_links, try_measuring};
+static void (*const tries[])(void) = {try_announces, try_announces, try_announces, try_bursts, try_bursts, try_recording, try_traces, try_slots, try_intervals, try_best, try_deciding_all,
+    try_deciding, try_ranking, try_comparing, try_reading, try_origin, try_writing, try_writing_links, try_links, try_links, try_measuring};
 
 /* One of the tries; most are the one that the kind of history is about. */
 static void try_one(void)
@@ -1305,10 +1757,10 @@ int main(int count, char **arguments)
     fill(memory, sizeof memory / 8);
     for (uint64_t which = 0; calls < most; which++)
         for (begin_history(which); calls < most && calls < (which + 1) * history; ) try_one();
-    printf("seed %" PRIu64 ": %" PRIu64 " calls, their answers %016" PRIx64 ", of refusals 1 to 18:", seed, calls, digest);
-    for (int i = 1; i <= DZ_REFUSED_FIELD; i++) printf(" %" PRIu64, answers[i]);
+    printf("seed %" PRIu64 ": %" PRIu64 " calls, their answers %016" PRIx64 ", of refusals 1 to 20:", seed, calls, digest);
+    for (int i = 1; i <= DZ_REFUSED_BLOCK; i++) printf(" %" PRIu64, answers[i]);
     printf("\n");
     calling = "all calls";
-    for (int i = 1; i <= DZ_REFUSED_FIELD; i++) expect(answers[i] > 0 || most < enough, "a number was never given");
+    for (int i = 1; i <= DZ_REFUSED_BLOCK; i++) expect(answers[i] > 0 || most < enough, "a number was never given");
     return 0;
 }

@@ -46,6 +46,7 @@ EXCHANGE = STAMPS | {
     "stamps.t2.fraction": "DZ_E_T2_FRACTION", "stamps.t3.fraction": "DZ_E_T3_FRACTION", "corrections.sync": "DZ_E_SYNC",
     "corrections.follow": "DZ_E_FOLLOW", "corrections.resp": "DZ_E_RESP", "latencies.mtx": "DZ_E_MASTER_TX", "latencies.mrx": "DZ_E_MASTER_RX",
     "latencies.stx": "DZ_E_SLAVE_TX", "latencies.srx": "DZ_E_SLAVE_RX", "asymmetry": "DZ_E_ASYMMETRY"}
+READER = {"next": "DZ_READER_NEXT", "last": "DZ_READER_LAST"}
 
 
 def of(variable, fields):
@@ -77,6 +78,9 @@ PACKED = [
     ("message_words.originWords", {"stamp.6 octets": "DZ_STAMP_SECONDS", "stamp.4 octets": "DZ_STAMP_NANOS"}, "DZ_STAMP_WORDS"),
     ("link_words.stepWords", of("s", STEP), "DZ_STEP_WORDS"),
     ("exchange_words.measuredWords", {"Measured.d": "DZ_D_DELAY", "Measured.o.seconds": "DZ_D_SECONDS", "Measured.o.rest": "DZ_D_REST"}, "DZ_MEASURED_WORDS"),
+    ("trace_words.nextWords", of("Found.p", {
+        "placeWords": "DZ_FOUND", "time": "DZ_N_TIME", "port": "DZ_N_PORT", "at": "DZ_N_AT", "length": "DZ_N_LENGTH", "end": "DZ_N_END"}), "DZ_FOUND_ENTRY_WORDS"),
+    ("playback.readerWords", of("r", READER), "DZ_READER_WORDS"),
 ]
 
 # What a definition takes out of words.
@@ -86,13 +90,14 @@ UNPACKED = [
     ("candidate_words.rankedOf", {"len": "DZ_LIST_COUNT"} | {f"slots.{i}": f"DZ_LIST_AT({i})" for i in range(4)}, "DZ_LIST_WORDS"),
     ("candidate_words.setOf", SET, "DZ_SET_WORDS"),
     ("exchange_words.exchangeOf", EXCHANGE, "DZ_EXCHANGE_WORDS"),
+    ("playback.readerOf", READER, "DZ_READER_WORDS"),
 ]
 
 # The numbers of cases.
 NUMBERS = [
     ("refusal.numberOf", {name: f"DZ_REFUSED_{name.upper()}" for name in (
         "Short", "Version", "Type", "Length", "Stamp", "Tlv", "WrBad", "Port", "Domain", "Own", "Backward", "Stale", "Full", "Range", "Unranked",
-        "Room", "Many", "Field")}),
+        "Room", "Many", "Field", "Long", "Block")}),
     ("election.codeOf", {name: f"DZ_{name}" for name in ("M1", "M2", "M3", "S1", "S2", "P1", "P2")}),
     ("candidate_words.comparisonNumber", {
         "ABetter": "DZ_A_BETTER", "BBetter": "DZ_B_BETTER", "ABetterByTopology": "DZ_A_BETTER_BY_TOPOLOGY",
@@ -115,18 +120,23 @@ ROWS = [
     ("ports.timeIn", ["DZ_BURST_TIME"]),
     ("ports.octetsIn", ["DZ_BURST_AT", "DZ_BURST_LENGTH"]),
     ("ports.answered", ["DZ_BURST_ANSWER"]),
+    ("recording.nextOf", ["DZ_RECORDING_NEXT"]),
+    ("recording.lastOf", ["DZ_RECORDING_LAST"]),
+    ("recording.endOf", ["DZ_RECORDING_END"]),
 ]
 
-# The numbers that a definition tests for.
+# The numbers that a definition tests for, or is.
 TESTED = [
     ("link.CanSlave", ["DZ_CONFIG_SLAVE", "DZ_CONFIG_BOTH"]),
     ("link.CanMaster", ["DZ_CONFIG_MASTER", "DZ_CONFIG_BOTH"]),
     ("ports.isMany", ["DZ_BURST_MOST"]),
+    ("block.blockOctets", ["DZ_BLOCK_OCTETS"]),
+    ("block.longest", ["DZ_TRACE_LONGEST"]),
 ]
 
 # Enumerators of which no definition speaks: no refusal, no config, what follows from another, the length of a row, which a call's parameter has, and
 # the bits of wrFlags.
-NOT_DEFINED = {"DZ_OK", "DZ_CONFIG_NONE", "DZ_LIST_FIRST", "DZ_LIST_CANDIDATES", "DZ_BURST_WORDS"}
+NOT_DEFINED = {"DZ_OK", "DZ_CONFIG_NONE", "DZ_LIST_FIRST", "DZ_LIST_CANDIDATES", "DZ_BURST_WORDS", "DZ_RECORDING_WORDS"}
 NOT_DEFINED_ENUMS = {"dz_wrflags"}
 
 # ---- the definitions

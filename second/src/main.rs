@@ -3,20 +3,29 @@
 //! `answer` speaks the line protocol on standard input and output; `calls`
 //! prints the names of the calls; `generate` prints lines by seed; `compare`
 //! gives such lines to another program and compares its answers with ours;
-//! `kinds` counts the kinds of answers that such lines reach.
+//! `kinds` counts the kinds of answers that such lines reach; `replay` runs a
+//! trace again; `why` also tells what changed along it and by what; `histories`
+//! lets another program replay and compares what it prints with what was
+//! decided live.
 
 mod engine;
+mod programs;
 mod protocol;
 mod trial;
 
+use engine::candidate::PORTS;
 use engine::clock::Clock;
+use programs::replay::replayed;
+use programs::why::explained;
 use protocol::answer::answer;
 use protocol::lines::next_line;
-use std::io::{self, BufReader, BufWriter, Write};
+use protocol::tokens::Tokens;
+use std::io::{self, BufReader, BufWriter, Read, Write};
 use std::process::ExitCode;
 use trial::calls::{calls_named, CALLS};
 use trial::compare::compare;
 use trial::generator::Generator;
+use trial::histories::histories;
 use trial::kinds::Kinds;
 
 const USAGE: &str = "usage:
@@ -25,6 +34,9 @@ const USAGE: &str = "usage:
   second generate CALLS COUNT SEED
   second compare CALLS COUNT SEED -- PROGRAM [ARGUMENTS]
   second kinds CALLS COUNT SEED
+  second replay
+  second why [CLOCK [INTERVAL]]
+  second histories COUNT SEED -- PROGRAM [ARGUMENTS]
 
 CALLS is `all` for every call, or names of calls separated by commas, among which
 `all` is the call of that name.";
@@ -49,6 +61,11 @@ fn run(arguments: &[String]) -> io::Result<ExitCode> {
     match words[..] {
         ["answer"] => run_answer(),
         ["calls"] => run_calls(),
+        ["replay"] => run_replay(),
+        ["why", ref settings @ ..] => match clock_with(settings) {
+            Some(clock) => run_why(&clock),
+            None => Ok(usage()),
+        },
         ["generate", calls, count, seed] => match lines_asked_for(calls, count, seed) {
             Some((generator, count)) => run_generate(generator, count),
             None => Ok(usage()),
@@ -60,6 +77,10 @@ fn run(arguments: &[String]) -> io::Result<ExitCode> {
         ["compare", calls, count, seed, "--", _, ..] => match lines_asked_for(calls, count, seed) {
             Some((generator, count)) => run_compare(&arguments[5..], generator, count),
             None => Ok(usage()),
+        },
+        ["histories", count, seed, "--", _, ..] => match (count.parse(), seed.parse()) {
+            (Ok(count), Ok(seed)) => run_histories(&arguments[4..], count, seed),
+            _ => Ok(usage()),
         },
         _ => Ok(usage()),
     }
@@ -107,6 +128,47 @@ fn run_calls() -> io::Result<ExitCode> {
     Ok(ExitCode::SUCCESS)
 }
 
+/// Replays the trace on standard input with the settings of a fresh clock.
+fn run_replay() -> io::Result<ExitCode> {
+    let trace = BufReader::with_capacity(1 << 16, io::stdin().lock());
+    let text = replayed(&Clock::fresh(), trace)?;
+    io::stdout().write_all(text.as_bytes())?;
+    Ok(ExitCode::SUCCESS)
+}
+
+/// A clock whose identity and whose ports' interval are given, each 0 if it is
+/// not; none if they are no such settings.
+fn clock_with(settings: &[&str]) -> Option<Clock> {
+    let (identity, log_interval) = match *settings {
+        [] => (0, 0),
+        [identity] => (number(identity)?, 0),
+        [identity, log_interval] => (number(identity)?, number(log_interval)?),
+        _ => return None,
+    };
+    let mut clock = Clock::fresh();
+    clock.identity = identity;
+    for port in PORTS {
+        clock.set_interval(port, log_interval).ok()?;
+    }
+    Some(clock)
+}
+
+/// The number that a word spells, as lines of the protocol do.
+fn number<N: TryFrom<i128>>(word: &str) -> Option<N> {
+    let mut tokens = Tokens::of(word.as_bytes());
+    let number = tokens.number()?;
+    tokens.end().map(|()| number)
+}
+
+/// Tells why decisions changed along the trace on standard input.
+fn run_why(clock: &Clock) -> io::Result<ExitCode> {
+    let mut trace = Vec::new();
+    io::stdin().lock().read_to_end(&mut trace)?;
+    let text = explained(clock, &trace)?;
+    io::stdout().write_all(text.as_bytes())?;
+    Ok(ExitCode::SUCCESS)
+}
+
 /// Prints lines.
 fn run_generate(mut generator: Generator, count: u64) -> io::Result<ExitCode> {
     let mut output = BufWriter::with_capacity(1 << 16, io::stdout().lock());
@@ -133,6 +195,17 @@ fn run_compare(program: &[String], generator: Generator, count: u64) -> io::Resu
     let found = compare(program, generator, count)?;
     println!("{} lines, {} differ", found.lines, found.differing);
     Ok(if found.differing > 0 || found.failed {
+        ExitCode::FAILURE
+    } else {
+        ExitCode::SUCCESS
+    })
+}
+
+/// Lets a program replay histories and says how many differ.
+fn run_histories(program: &[String], count: u64, seed: u64) -> io::Result<ExitCode> {
+    let differing = histories(program, count, seed)?;
+    println!("{count} histories, {differing} differ");
+    Ok(if differing > 0 {
         ExitCode::FAILURE
     } else {
         ExitCode::SUCCESS

@@ -123,7 +123,7 @@ fn checked(run: &[[u64; 11]]) -> Outcome
     let mut whole = true;
     let mut i: usize = 0;
     while i < n {
-        if !rank::is_port(words::port_of(run[i][9])) {
+        if !refusal::is_port(words::port_of(run[i][9])) {
             return Outcome::Refused(Refusal::Port);
         }
         whole = whole & crate::fits::one_fits(&run[i]);
@@ -264,7 +264,7 @@ fn all_fit(run: &[[u64; 11]], from: usize, to: usize) -> bool
 {
     let mut i = from;
     while i < to {
-        if !rank::is_port(words::port_of(run[i][9])) {
+        if !refusal::is_port(words::port_of(run[i][9])) {
             return false;
         }
         if !crate::fits::one_fits(&run[i]) {

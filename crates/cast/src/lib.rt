@@ -1,6 +1,6 @@
 // Who is heard on the day that the program `day` tells: two masters, a boundary clock, a tenant's own clock, a looped cable, tenants
-// with endless new names, and two clocks of a tenant that follow each other. Their messages are made here as they stand on the wire,
-// and the clock takes them from the octets. Beside it the slave port's exchange. All of it is made up, so there is nothing that a
+// with endless new names, and two clocks of a tenant that follow each other. Their messages are made here as they stand on the wire, one by one;
+// each is recorded, and the clock takes it from the octets. Beside it the slave port's exchange. All of it is made up, so there is nothing that a
 // contract could hold it to: its functions are proved to end and to stay in bounds.
 use page::tally;
 use page::tally::COUNTS;
@@ -8,6 +8,7 @@ use ports::intake::Settings;
 use rank::Grandmaster;
 
 pub mod exchange;
+pub mod tape;
 
 // Our own clock.
 pub const OURS: u64 = 0x00c0_ffee_0000_0001;
@@ -54,6 +55,14 @@ struct Speaker {
     identity: u64,
     priority2: u8,
     steps: u16,
+}
+
+// An Announce: whose, when in nanoseconds, its sequenceId, and how many octets of a tail it has.
+struct Said {
+    by: Speaker,
+    t: u64,
+    sequence: u16,
+    tail: u64,
 }
 
 // What an Announce on our ports is judged by.
@@ -169,22 +178,6 @@ fn announce(s: Speaker, sequence: u16, length: u64) -> [u8; 80] {
     ])
 }
 
-// One Announce with so many octets of a tail, taken at `t` nanoseconds from the octets that its sender wrote, and what became of it.
-fn heard(
-    words: &mut [u64; ports::WORDS],
-    counts: &mut [u64; COUNTS],
-    t: u64,
-    s: Speaker,
-    sequence: u16,
-    tail: u64,
-) {
-    let length = ANNOUNCE + tail % 16;
-    let sent = announce(s, sequence, length);
-    let octets = page::front(&sent, length as usize);
-    let x = ports::intake::take(words, s.port, t, octets, settings());
-    tally::note(counts, s.port, x);
-}
-
 // A second of the day in nanoseconds.
 pub fn instant(second: u64) -> u64 {
     second % 86_400 * NANOS
@@ -204,32 +197,34 @@ pub fn set_intervals(words: &mut [u64; ports::WORDS]) {
     }
 }
 
-// What every even second brings: an Announce of each of those that are there. The first two are masters, and send the White Rabbit
-// suffix behind it.
-pub fn beat(words: &mut [u64; ports::WORDS], counts: &mut [u64; COUNTS], second: u64) {
-    let mut k: u64 = !is_first(second) as u64 % 2;
-    while k < 4 {
-        heard(
-            words,
-            counts,
-            instant(second),
-            who(k, second),
-            number(second),
-            (1 - k / 2) * SUFFIX,
-        );
-        k += 1;
+// What is said at a second, with nothing behind the Announce.
+fn plain(by: Speaker, second: u64) -> Said {
+    Said {
+        by,
+        t: instant(second),
+        sequence: number(second),
+        tail: 0,
     }
 }
 
-// What became of so many Announces of a tenant in this hour.
-fn tried(counts: &[u64; COUNTS], words: &[u8], t: u64, port: u8, all: u64) {
-    let refused = tally::of(counts, port, tally::LATELY);
-    let last = tally::of(counts, port, tally::LAST);
-    let taken = std::num::wrapping_sub_u64(all, refused);
-    page::tell(words, &[t, port as u64, taken, refused, last]);
+// ---- Every beat
+
+// How many announce at every beat.
+const SPEAKERS: u64 = 4;
+
+// What the k-th of them says. The first two are masters, and send the White Rabbit suffix.
+fn regular(k: u64, second: u64) -> Said {
+    Said {
+        by: who(k, second),
+        t: instant(second),
+        sequence: number(second),
+        tail: if k < 2 { SUFFIX } else { 0 },
+    }
 }
 
-// The hour in which a cable brings our own Announces back to a tenant's port, for how many seconds, and so how many.
+// ---- A tenant's cable
+
+// The hour in which it brings our own Announces back to a port, for how many seconds, and so how many.
 const LOOP: u64 = 3;
 
 const LOOPED: u64 = 120;
@@ -238,21 +233,11 @@ const BROUGHT: u64 = LOOPED / BEAT;
 
 const CABLE: u8 = 9;
 
-// What the cable brings behind a beat; the page says what became of it behind the last.
-fn looped(words: &mut [u64; ports::WORDS], counts: &mut [u64; COUNTS], second: u64) {
-    let t = instant(second);
-    let s = leading(OURS, CABLE, FREE);
-    heard(words, counts, t, s, number(second), 0);
-    if second % 3600 == LOOPED - BEAT {
-        tried(
-            counts,
-            b"%t  port %d: a tenant's cable brings our own Announces back: %d Announces taken, %d refused with %n\n",
-            t,
-            CABLE,
-            BROUGHT,
-        );
-    }
+fn looped(second: u64) -> Said {
+    plain(leading(OURS, CABLE, FREE), second)
 }
+
+// ---- Floods
 
 // The seconds of an hour in which names flood a port, names between two beats, and nanoseconds from one of their Announces to the next.
 const FLOODED: u64 = 200;
@@ -283,37 +268,18 @@ pub fn flood_end(second: u64) -> u64 {
     spoken(second, 2 * NAMES - 1)
 }
 
-// A hundred new names on a port between two beats. Each speaks twice, so that it counts as a candidate where it is kept.
-fn flood(words: &mut [u64; ports::WORDS], counts: &mut [u64; COUNTS], port: u8, second: u64) {
+// The j-th Announce of a hundred new names on a port between two beats. Each speaks twice, so that it counts as a candidate where it is kept.
+fn new_name(port: u8, second: u64, j: u64) -> Said {
     let from = 0x00f0_0000_0000_0000 + second % 3600 / BEAT * NAMES;
-    let mut j: u64 = 0;
-    while j < 2 * NAMES {
-        let s = leading(std::num::wrapping_add_u64(from, j / 2), port, FREE);
-        heard(words, counts, spoken(second, j), s, (j % 2 + 1) as u16, 0);
-        j += 1;
+    Said {
+        by: leading(std::num::wrapping_add_u64(from, j / 2), port, FREE),
+        t: spoken(second, j),
+        sequence: (j % 2 + 1) as u16,
+        tail: 0,
     }
 }
 
-// What a flood brings behind a beat: the port, where it was the last beat of it, else 0. The page says what became of it.
-fn flooding(
-    words: &mut [u64; ports::WORDS],
-    counts: &mut [u64; COUNTS],
-    port: u8,
-    second: u64,
-) -> u8 {
-    flood(words, counts, port, second);
-    if second % 3600 != FLOODED - BEAT {
-        return 0;
-    }
-    tried(
-        counts,
-        b"%t  port %d: 10000 new names, each heard twice: %d Announces taken, %d refused with %n\n",
-        flood_end(second),
-        port,
-        FLOOD,
-    );
-    port
-}
+// ---- The echo
 
 // Two clocks of a tenant follow each other from 12:52 on: what the first master announced goes round between them and gains a step
 // at each beat, also when that master has fallen silent. One of the two is heard on our port.
@@ -328,8 +294,151 @@ fn rounds(second: u64) -> u16 {
     (std::num::wrapping_sub_u64(second, CIRCLES) / BEAT % 65535) as u16 + 1
 }
 
-// The page says when the loop begins, and when it is so far away that it does not count any more.
-fn loop_told(counts: &[u64; COUNTS], t: u64, steps: u16) {
+fn echo(second: u64) -> Said {
+    let by = Speaker {
+        clock: ECHO,
+        port: CORNER,
+        identity: FIRST,
+        priority2: BETTER,
+        steps: rounds(second),
+    };
+    plain(by, second)
+}
+
+// ---- All that is heard
+
+// What tenants do behind the beat of a second.
+enum Tenants {
+    Nothing,
+    Cable,
+    Flood(u8),
+    Echo,
+}
+
+fn tenants_at(second: u64) -> Tenants {
+    let h = second / 3600;
+    let into = second % 3600;
+    if (h == LOOP) & (into < LOOPED) {
+        return Tenants::Cable;
+    }
+    if CIRCLES <= second {
+        return Tenants::Echo;
+    }
+    let port = flooded(h);
+    if (port != 0) & (into < FLOODED) {
+        return Tenants::Flood(port);
+    }
+    Tenants::Nothing
+}
+
+// The Announces of a second are numbered: from `begin` to `turn` those of the beat, from there to `end` those of the tenants. The first
+// of the beat is the first master's.
+pub fn begin(second: u64) -> u64 {
+    if is_first(second) { 0 } else { 1 }
+}
+
+pub fn turn() -> u64 {
+    SPEAKERS
+}
+
+pub fn end(second: u64) -> u64 {
+    match tenants_at(second) {
+        Tenants::Nothing => SPEAKERS,
+        Tenants::Cable => SPEAKERS + 1,
+        Tenants::Flood(_) => SPEAKERS + 2 * NAMES,
+        Tenants::Echo => SPEAKERS + 1,
+    }
+}
+
+// The k-th Announce of a second.
+fn announced(k: u64, second: u64) -> Said {
+    if k < SPEAKERS {
+        return regular(k, second);
+    }
+    match tenants_at(second) {
+        Tenants::Nothing => looped(second),
+        Tenants::Cable => looped(second),
+        Tenants::Flood(port) => new_name(port, second, k - SPEAKERS),
+        Tenants::Echo => echo(second),
+    }
+}
+
+// One Announce: recorded, and taken from the octets that its sender wrote; and what became of it.
+fn heard(
+    words: &mut [u64; ports::WORDS],
+    counts: &mut [u64; COUNTS],
+    opened: &mut [u8; block::OCTETS],
+    tape: &mut [u64; recording::WORDS],
+    file: i32,
+    s: Said,
+) {
+    let by = s.by;
+    let length = ANNOUNCE + s.tail % 16;
+    let sent = announce(by, s.sequence, length);
+    let octets = page::front(&sent, length as usize);
+    tape::record(opened, tape, file, by.port, s.t, octets);
+    let x = ports::intake::take(words, by.port, s.t, octets, settings());
+    tally::note(counts, by.port, x);
+}
+
+// The Announces of a second from number `from` to `to`, one after another.
+pub fn hear(
+    words: &mut [u64; ports::WORDS],
+    counts: &mut [u64; COUNTS],
+    opened: &mut [u8; block::OCTETS],
+    tape: &mut [u64; recording::WORDS],
+    file: i32,
+    second: u64,
+    from: u64,
+    to: u64,
+) {
+    let mut k = from;
+    while k < to {
+        heard(words, counts, opened, tape, file, announced(k, second));
+        k += 1;
+    }
+}
+
+// ---- What the page says of it
+
+// What became of so many Announces of a tenant in this hour.
+fn tried(counts: &[u64; COUNTS], words: &[u8], t: u64, port: u8, all: u64) {
+    let refused = tally::of(counts, port, tally::LATELY);
+    let last = tally::of(counts, port, tally::LAST);
+    let taken = std::num::wrapping_sub_u64(all, refused);
+    page::tell(words, &[t, port as u64, taken, refused, last]);
+}
+
+// Behind the last Announce that the cable brings.
+fn loop_told(counts: &[u64; COUNTS], second: u64) {
+    if second % 3600 == LOOPED - BEAT {
+        tried(
+            counts,
+            b"%t  port %d: a tenant's cable brings our own Announces back: %d Announces taken, %d refused with %n\n",
+            instant(second),
+            CABLE,
+            BROUGHT,
+        );
+    }
+}
+
+// Behind the last beat of a flood: its port then, else 0.
+fn flood_told(counts: &[u64; COUNTS], port: u8, second: u64) -> u8 {
+    if second % 3600 != FLOODED - BEAT {
+        return 0;
+    }
+    tried(
+        counts,
+        b"%t  port %d: 10000 new names, each heard twice: %d Announces taken, %d refused with %n\n",
+        flood_end(second),
+        port,
+        FLOOD,
+    );
+    port
+}
+
+// Where the echo begins, and where it is so far away that it does not count any more.
+fn echo_told(counts: &[u64; COUNTS], t: u64, steps: u16) {
     if steps == 1 {
         page::tell(
             b"%t  port %d: two clocks of a tenant follow each other and announce %x, a step more each time\n",
@@ -348,34 +457,18 @@ fn loop_told(counts: &[u64; COUNTS], t: u64, steps: u16) {
     }
 }
 
-// What the echo brings behind a beat.
-fn echoed(words: &mut [u64; ports::WORDS], counts: &mut [u64; COUNTS], second: u64) {
-    let t = instant(second);
-    let steps = rounds(second);
-    let s = Speaker {
-        clock: ECHO,
-        port: CORNER,
-        identity: FIRST,
-        priority2: BETTER,
-        steps,
-    };
-    heard(words, counts, t, s, number(second), 0);
-    loop_told(counts, t, steps);
-}
-
-// What the tenants do behind the beat of a second: the port on which a flood is over with it, else 0.
-pub fn tenants(words: &mut [u64; ports::WORDS], counts: &mut [u64; COUNTS], second: u64) -> u8 {
-    let h = second / 3600;
-    let port = flooded(h);
-    if (h == LOOP) & (second % 3600 < LOOPED) {
-        looped(words, counts, second);
-    }
-    if CIRCLES <= second {
-        echoed(words, counts, second);
-    }
-    if (port != 0) & (second % 3600 < FLOODED) {
-        flooding(words, counts, port, second)
-    } else {
-        0
+// What tenants did at a second: the port on which a flood is over with it, else 0.
+pub fn told(counts: &[u64; COUNTS], second: u64) -> u8 {
+    match tenants_at(second) {
+        Tenants::Nothing => 0,
+        Tenants::Cable => {
+            loop_told(counts, second);
+            0
+        }
+        Tenants::Flood(port) => flood_told(counts, port, second),
+        Tenants::Echo => {
+            echo_told(counts, instant(second), rounds(second));
+            0
+        }
     }
 }

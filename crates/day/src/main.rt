@@ -47,13 +47,18 @@ fn watched(words: &[u64; ports::WORDS], old: Parent, t: u64) -> Parent {
 fn beat(
     words: &mut [u64; ports::WORDS],
     counts: &mut [u64; COUNTS],
+    opened: &mut [u8; block::OCTETS],
+    tape: &mut [u64; recording::WORDS],
+    file: i32,
     second: u64,
     old: Parent,
 ) -> Parent {
+    let turn = cast::turn();
     rise::begun(old.port, old.flags, second);
-    cast::beat(words, counts, second);
+    cast::hear(words, counts, opened, tape, file, second, cast::begin(second), turn);
     let new = watched(words, old, cast::instant(second));
-    let port = cast::tenants(words, counts, second);
+    cast::hear(words, counts, opened, tape, file, second, turn, cast::end(second));
+    let port = cast::told(counts, second);
     board::kept::meanwhile(words, port, cast::flood_end(second), new);
     new
 }
@@ -73,15 +78,19 @@ fn closed(
     }
 }
 
-// All beats and hours.
+// All beats and hours. What is heard is recorded in blocks, which go to a file.
 fn hours(words: &mut [u64; ports::WORDS], counts: &mut [u64; COUNTS], strips: &mut [u8; 456]) {
+    let mut opened = [0u8; block::OCTETS];
+    let mut tape = [0u64; recording::WORDS];
+    let file = cast::tape::file();
     let mut p = ours();
     let mut second: u64 = 0;
     while second < 86_400 {
-        p = beat(words, counts, second, p);
+        p = beat(words, counts, &mut opened, &mut tape, file, second, p);
         closed(words, counts, strips, second, p.clock);
         second += cast::BEAT;
     }
+    cast::tape::finish(&opened, &tape, file);
 }
 
 // What the day comes to.

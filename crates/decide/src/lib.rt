@@ -296,7 +296,7 @@ pub enum Answer {
 pub fn decide(own: Grandmaster, list: Ranked, port: u8, best: Erbest) -> Answer
     ensures { λ r. ⌜ r ≡ decideOf own list port best ⌝ }
 {
-    if !rank::is_port(port) {
+    if !refusal::is_port(port) {
         return Answer::Refused(Refusal::Port);
     }
     if !rank::is_ranked(list) {

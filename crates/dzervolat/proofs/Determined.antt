@@ -96,3 +96,19 @@ dz-link-status-determined κs a x y v w p q = (p .0 ∙ sym (q .0), λ i. (tt, (
 
 pub dz-version-determined : Fixes its.dz_version.ended its.dz_version.Reads.Post
 dz-version-determined κs a x y v w p q = (p ∙ sym q, refl)
+
+pub dz-trace-record-determined : Fixes its.tracing.dz_trace_record.ended its.tracing.dz_trace_record.Reads.Post
+dz-trace-record-determined κs a x y v w p q =
+    (p .0 ∙ sym (q .0), λ i. ((p .1 .0 ∙ sym (q .1 .0)) i, ((p .1 .1 .0 ∙ sym (q .1 .1 .0)) i, (tt, (tt, (tt, ((p .1 .1 .1 .0 ∙ sym (q .1 .1 .1 .0)) i, ((p .1 .1 .1 .1 ∙ sym (q .1 .1 .1 .1)) i, w .1 .1 .1 .1 .1 .1 .1))))))))
+
+pub dz-trace-finish-determined : Fixes its.tracing.dz_trace_finish.ended its.tracing.dz_trace_finish.Reads.Post
+dz-trace-finish-determined κs a x y v w p q = (p .0 ∙ sym (q .0), λ i. (tt, (tt, ((p .1 .0 ∙ sym (q .1 .0)) i, ((p .1 .1 ∙ sym (q .1 .1)) i, w .1 .1 .1 .1)))))
+
+pub dz-trace-walk-determined : Fixes its.tracing.dz_trace_walk.ended its.tracing.dz_trace_walk.Reads.Post
+dz-trace-walk-determined κs a x y v w p q = (p .0 ∙ sym (q .0), λ i. (tt, (tt, ((p .1 ∙ sym (q .1)) i, w .1 .1 .1))))
+
+pub dz-replay-block-determined : Fixes its.tracing.dz_replay_block.ended its.tracing.dz_replay_block.Reads.Post
+dz-replay-block-determined κs a x y v w p q = (p .0 ∙ sym (q .0), λ i. ((p .1 .0 ∙ sym (q .1 .0)) i, ((p .1 .1 ∙ sym (q .1 .1)) i, w .1 .1)))
+
+pub dz-replay-determined : Fixes its.tracing.dz_replay.ended its.tracing.dz_replay.Reads.Post
+dz-replay-determined κs a x y v w p q = (p .0 ∙ sym (q .0), λ i. ((p .1 .0 ∙ sym (q .1 .0)) i, (tt, (tt, (tt, (tt, ((p .1 .1 ∙ sym (q .1 .1)) i, w .1 .1 .1 .1 .1 .1)))))))

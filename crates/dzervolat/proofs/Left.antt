@@ -9,7 +9,7 @@ use lib.ListN.{length}
 use Rattle.refusal.specs.Choice.{pick, refuse}
 use Rattle.refusal.specs.Refusal.{codeOf}
 use Rattle.refusal.specs.declared.Refusal.{Refusal}
-use Rattle.refusal.specs.declared.Refusal.the-variants.{Port, Field, Backward, Many}
+use Rattle.refusal.specs.declared.Refusal.the-variants.{Port, Field, Backward, Many, Block}
 use Rattle.refusal.specs.declared.Outcome.{Outcome}
 use Rattle.refusal.specs.declared.Outcome.the-variants as outcome
 use Rattle.message.specs.declared.reading.Reading.{Reading}
@@ -57,6 +57,12 @@ use Rattle.link.specs.declared.Settings as link
 use Rattle.links.specs.declared.Taken.{Taken}
 use Rattle.links.specs.declared.Taken.the-variants as taken
 use Rattle.links.specs.Words.{IsPort, stepAt, settingAnswer, settingWords, takeAnswer, takeWords}
+use Rattle.recording.specs.declared.Recorded.{Recorded}
+use Rattle.recording.specs.declared.Recorded.the-variants as recorded
+use Rattle.recording.specs.Recording.{toldBy, answerBy, lentBy}
+use Rattle.playback.specs.declared.Replayed.{Replayed}
+use Rattle.playback.specs.declared.Replayed.the-variants as replayed
+use Rattle.trace_words.specs.Answers.{recordedCode, recordedWords, replayedCode, replayedWords}
 use Rattle.delay.specs.declared.Measurement.{Measurement}
 use Rattle.delay.specs.declared.Measurement.the-variants as measurement
 use Rattle.candidate_words.specs.Candidates.{grandmasterAt, askedCode, askedWords}
@@ -236,3 +242,32 @@ step-left ws port e = stepped-left (IsPort port) ws _ (taken.Step (stepAt ws por
 pub measured-left : (x : Measurement) (out : List ℕ) → Left (measuredCode x) out (measuredWords x out)
 measured-left (measurement.Measured d o) out h = absurd (h refl)
 measured-left (measurement.Refused x) out h = refl
+
+-- ---- traces
+pub recorded-left : (x : Recorded) (out : List ℕ) → Left (recordedCode x) out (recordedWords x out)
+recorded-left (recorded.Refused x) out h = refl
+recorded-left recorded.Kept out h = absurd (h refl)
+recorded-left recorded.Closed out h = absurd (h refl)
+
+-- the recording's words, its open block and the block that comes out
+pub lent-left : (x : Outcome) (closed : Bool) (before after : List ℕ) → Left (recordedCode (answerBy x (toldBy closed))) before (lentBy x before after)
+lent-left (outcome.Refused x) closed before after h = refl
+lent-left outcome.Done true before after h = absurd (h refl)
+lent-left outcome.Done false before after h = absurd (h refl)
+
+pub replayed-left : (x : Replayed) (out : List ℕ) → Left (replayedCode x) out (replayedWords x out)
+replayed-left (replayed.Refused x) out h = refl
+replayed-left (replayed.Until t) out h = absurd (h refl)
+
+-- what a trace, and what a block, that is not accepted leaves
+pub trace-left : (accepted : Bool) (t : ℕ) (before after : List ℕ)
+    → Left (replayedCode (refuse (not accepted) (replayed.Refused Block) (replayed.Until t))) before (pick accepted after before)
+unfolding refuse
+trace-left true t before after h = absurd (h refl)
+trace-left false t before after h = refl
+
+pub block-left : (accepted : Bool) (before after : List ℕ)
+    → Left (codeOf (refuse (not accepted) (outcome.Refused Block) outcome.Done)) before (pick accepted after before)
+unfolding refuse
+block-left true before after h = absurd (h refl)
+block-left false before after h = refl

@@ -1,8 +1,9 @@
 -- A refusal leaves all that was lent: for every call of the C library, where the number returned is not 0, every word and octet that the call may
 -- change is at exit what it was at entry ("State, output buffers and input stay as they were."). What is lent to be read alone cannot change.
--- `dz_write_suffix` and `dz_version` refuse nothing.
+-- `dz_write_suffix`, `dz_trace_finish`, `dz_trace_walk` and `dz_version` refuse nothing.
 use Prim.Native.Nat.{ℕ}
 use mathlib.Core.Bool.{not}
+use mathlib.Core.List.{List}
 use lib.Dec.{eqb}
 use lib.ListN.{length}
 use contract.Lifetimes.{Lfts}
@@ -17,12 +18,15 @@ use Rattle.ports.specs.Asking.{candidateOn, bestOn, statusOf, lookedAt}
 use Rattle.ports.specs.Intake.{planAt}
 use Rattle.link.specs.declared.Event.the-variants as event
 use Rattle.links.specs.Words.{takeAnswer, lookAnswer}
+use Rattle.recording.specs.Recording.{entryOf, lentBy, closes, recordCheck, recordedOf, openWith, wordsWith, outWith}
+use Rattle.playback.specs.Playback.{readerOf, accepts, isTrace, replayOf}
+use Rattle.trace_words.specs.Answers.{recordedCode}
 use Rattle.words.specs.Words.{portOf}
 use Rattle.exchange_words.specs.Exchanges.{measuredOf}
 use Rattle.dzervolat.specs.Settings.{settings, linkSettings}
 use Rattle.dzervolat.specs.Ranking.{rankedRun, mergedLists, decidedBy, electedBy, parentIn}
 use Rattle.dzervolat.specs.Writing.{wordsWritten, linkWritten}
-use Rattle.dzervolat.proofs.Left.{Left, left-by, asked-left, burst-left, carried-left, compared-left, decided-left, decisions-left, interval-left, leader-left, looked-left, measured-left, origin-left, ranking-left, read-left, setting-left, signaling-left, status-left, step-left, suffix-left, tail-left, take-left, taken-left, tlv-left, walked-left, words-left, written-left}
+use Rattle.dzervolat.proofs.Left.{Left, left-by, asked-left, block-left, burst-left, carried-left, compared-left, decided-left, decisions-left, interval-left, leader-left, lent-left, looked-left, measured-left, origin-left, ranking-left, read-left, recorded-left, replayed-left, setting-left, signaling-left, status-left, step-left, suffix-left, tail-left, take-left, taken-left, tlv-left, trace-left, walked-left, words-left, written-left}
 use Rattle.dzervolat.proofs.records.dz_take.Reads as dz-take
 use Rattle.dzervolat.proofs.records.dz_take.Kinds as dz-take-kinds
 use Rattle.dzervolat.proofs.records.dz_take_burst.Reads as dz-take-burst
@@ -81,6 +85,12 @@ use Rattle.dzervolat.proofs.writing.dz_write.Reads as dz-write
 use Rattle.dzervolat.proofs.writing.dz_write.Kinds as dz-write-kinds
 use Rattle.dzervolat.proofs.writing.dz_write_link.Reads as dz-write-link
 use Rattle.dzervolat.proofs.writing.dz_write_link.Kinds as dz-write-link-kinds
+use Rattle.dzervolat.proofs.tracing.dz_trace_record.Reads as dz-trace-record
+use Rattle.dzervolat.proofs.tracing.dz_trace_record.Kinds as dz-trace-record-kinds
+use Rattle.dzervolat.proofs.tracing.dz_replay_block.Reads as dz-replay-block
+use Rattle.dzervolat.proofs.tracing.dz_replay_block.Kinds as dz-replay-block-kinds
+use Rattle.dzervolat.proofs.tracing.dz_replay.Reads as dz-replay
+use Rattle.dzervolat.proofs.tracing.dz_replay.Kinds as dz-replay-kinds
 
 module _ (κs : Lfts 2) (a : Dens κs dz-take-kinds.ps) (x : resT dz-take-kinds.r κs .Denot) (e : AtExit (endedOf 2 dz-take-kinds.ps dz-take-kinds.r) κs) where
   pub dz-take-left : dz-take.Post κs a x e → Left x (now (a .0)) (now (e .0))
@@ -199,3 +209,32 @@ module _ (κs : Lfts 4) (a : Dens κs dz-write-link-kinds.ps) (x : resT dz-write
 module _ (κs : Lfts 2) (a : Dens κs dz-link-status-kinds.ps) (x : resT dz-link-status-kinds.r κs .Denot) (e : AtExit (endedOf 2 dz-link-status-kinds.ps dz-link-status-kinds.r) κs) where
   pub dz-link-status-left : dz-link-status.Post κs a x e → Left x (now (a .1 .1 .0)) (now (e .1 .1 .0))
   dz-link-status-left p = left-by (p .0) (p .1) (taken-left (lookAnswer (now (a .0)) (portOf (a .1 .0))) (now (a .1 .1 .0)))
+
+module _ (κs : Lfts 5) (a : Dens κs dz-trace-record-kinds.ps) (x : resT dz-trace-record-kinds.r κs .Denot) (e : AtExit (endedOf 5 dz-trace-record-kinds.ps dz-trace-record-kinds.r) κs) where
+  pub dz-trace-record-left : dz-trace-record.Post κs a x e
+      → (Left x (now (a .0)) (now (e .0))) × ((Left x (now (a .1 .0)) (now (e .1 .0))) × ((Left x (now (a .1 .1 .1 .1 .1 .0)) (now (e .1 .1 .1 .1 .1 .0))) × (Left x (now (a .1 .1 .1 .1 .1 .1 .0)) (now (e .1 .1 .1 .1 .1 .1 .0)))))
+  dz-trace-record-left p =
+      let ws = now (a .0) in
+      let m = entryOf (a .1 .1 .1 .0) (portOf (a .1 .1 .0)) (now (a .1 .1 .1 .1 .0)) in
+      let lent : (before after : List ℕ) → Left (recordedCode (recordedOf ws m)) before (lentBy (recordCheck ws m) before after) = lent-left (recordCheck ws m) (closes ws m) in (
+        left-by (p .0) (p .1 .0) (lent ws (wordsWith ws m)),
+        (
+          left-by (p .0) (p .1 .1 .0) (lent (now (a .1 .0)) (openWith (now (a .1 .0)) ws m)),
+          (
+            left-by (p .0) (p .1 .1 .1 .0) (lent (now (a .1 .1 .1 .1 .1 .0)) (outWith (now (a .1 .0)) ws m (now (a .1 .1 .1 .1 .1 .0)))),
+            left-by (p .0) (p .1 .1 .1 .1) (recorded-left (recordedOf ws m) (now (a .1 .1 .1 .1 .1 .1 .0))),
+          ),
+        ),
+      )
+
+module _ (κs : Lfts 3) (a : Dens κs dz-replay-block-kinds.ps) (x : resT dz-replay-block-kinds.r κs .Denot) (e : AtExit (endedOf 3 dz-replay-block-kinds.ps dz-replay-block-kinds.r) κs) where
+  pub dz-replay-block-left : dz-replay-block.Post κs a x e → (Left x (now (a .0)) (now (e .0))) × (Left x (now (a .1 .0)) (now (e .1 .0)))
+  dz-replay-block-left p =
+      let left = block-left (accepts (readerOf (now (a .1 .0))) (now (a .1 .1 .0))) in
+      (left-by (p .0) (p .1 .0) (left (now (a .0)) _), left-by (p .0) (p .1 .1) (left (now (a .1 .0)) _))
+
+module _ (κs : Lfts 3) (a : Dens κs dz-replay-kinds.ps) (x : resT dz-replay-kinds.r κs .Denot) (e : AtExit (endedOf 3 dz-replay-kinds.ps dz-replay-kinds.r) κs) where
+  pub dz-replay-left : dz-replay.Post κs a x e → (Left x (now (a .0)) (now (e .0))) × (Left x (now (a .1 .1 .1 .1 .1 .0)) (now (e .1 .1 .1 .1 .1 .0)))
+  dz-replay-left p =
+      let s = now (a .1 .0) in
+      (left-by (p .0) (p .1 .0) (trace-left (isTrace s) _ (now (a .0)) _), left-by (p .0) (p .1 .1) (replayed-left (replayOf s) (now (a .1 .1 .1 .1 .1 .0))))

@@ -10,12 +10,13 @@ pub mod ranking;
 pub mod reading;
 pub mod records;
 pub mod steps;
+pub mod tracing;
 pub mod writing;
 
 // The number of this library: DZ_VERSION of the header that belongs to it.
 #[no_mangle]
 pub extern "C" fn dz_version() -> u64
-    ensures { λ r. ⌜ r ≡ 4 ⌝ }
+    ensures { λ r. ⌜ r ≡ 5 ⌝ }
 {
-    4
+    5
 }

@@ -7,9 +7,6 @@ use Rattle.layout.proofs as its
 pub kind-of-determined : Fixes its.kind_of.ended its.kind_of.Reads.Post
 kind-of-determined κs a x y v w p q = (p ∙ sym q, refl)
 
-pub copy-in-determined : Fixes its.copy_in.ended its.copy_in.Reads.Post
-copy-in-determined κs a x y v w p q = (refl, λ i. ((p ∙ sym q) i, w .1))
-
 pub put-header-determined : Fixes its.put_header.ended its.put_header.Reads.Post
 put-header-determined κs a x y v w p q = (refl, λ i. ((p ∙ sym q) i, w .1))
 
@@ -30,18 +27,3 @@ put-close-determined κs a x y v w p q = (refl, λ i. ((p ∙ sym q) i, w .1))
 
 pub put-announce-determined : Fixes its.put_announce.ended its.put_announce.Reads.Post
 put-announce-determined κs a x y v w p q = (refl, λ i. ((p ∙ sym q) i, w .1))
-
-pub put-one-determined : Fixes its.put.one.ended its.put.one.Reads.Post
-put-one-determined κs a x y v w p q = (refl, λ i. ((p ∙ sym q) i, w .1))
-
-pub put-two-determined : Fixes its.put.two.ended its.put.two.Reads.Post
-put-two-determined κs a x y v w p q = (refl, λ i. ((p ∙ sym q) i, w .1))
-
-pub put-four-determined : Fixes its.put.four.ended its.put.four.Reads.Post
-put-four-determined κs a x y v w p q = (refl, λ i. ((p ∙ sym q) i, w .1))
-
-pub put-six-determined : Fixes its.put.six.ended its.put.six.Reads.Post
-put-six-determined κs a x y v w p q = (refl, λ i. ((p ∙ sym q) i, w .1))
-
-pub put-eight-determined : Fixes its.put.eight.ended its.put.eight.Reads.Post
-put-eight-determined κs a x y v w p q = (refl, λ i. ((p ∙ sym q) i, w .1))

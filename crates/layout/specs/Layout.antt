@@ -1,7 +1,7 @@
 -- The octets of a message, part by part (01, "Octets of a message"), each part before what follows it.
 use Prim.Native.Nat.{ℕ, _+_, _*_}
 use mathlib.Core.List.{List, _∷_, _++_}
-use lib.ListN.{length, take, drop}
+use lib.ListN.{length}
 use mir.Syntax.{w8, w16, w64}
 use mir.Val.{ofZ}
 use Rattle.octets.specs.Be.{octetsOf}
@@ -108,7 +108,3 @@ sizeOf b = fixedSize (kindOf b)
 unfoldable pub messageOctets : Message → List ℕ → List ℕ → List ℕ
 messageOctets m tail rest =
     headerOctets (m .header) (m .body) (sizeOf (m .body) + length tail) (bodyOctets (m .body) (tail ++ rest))
-
--- d with the octets s in it from `at` on
-abbrev pub over : List ℕ → ℕ → List ℕ → List ℕ
-over d at s = take at d ++ s ++ drop (at + length s) d

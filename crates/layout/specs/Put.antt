@@ -1,17 +1,11 @@
--- What only the code needs, no rules of 01: the octets of a number with the lowest first, the order in which one wide store puts them, and parts
--- of a message that are put by functions of their own.
-use Prim.Native.Nat.{ℕ, zero, suc, _+_, _*_, _/_, _%_}
+-- What only the code needs, no rules of 01: parts of a message that are put by functions of their own.
+use Prim.Native.Nat.{ℕ, _+_, _*_}
 use mathlib.Core.List.{List, [], _∷_}
 use mir.Syntax.{w16}
 use mir.Val.{ofZ}
 use Rattle.octets.specs.Be.{octetsOf}
 use Rattle.message.specs.declared.fields.Header.{Header}
 use Rattle.message.specs.declared.fields.Announce.{Announce}
-
--- the low n octets of v, the lowest first, before rest
-abbrev pub lowOf : ℕ → ℕ → List ℕ → List ℕ
-lowOf zero v rest = rest
-lowOf (suc n) v rest = v % 256 ∷ lowOf n (v / 256) rest
 
 -- octets 0 to 7
 unfoldable pub startOctets : Header → ℕ → ℕ → List ℕ

@@ -5,8 +5,9 @@
 ghost use mathlib.Core.Path.{_≡_};
 ghost use mathlib.Core.List.{[]};
 ghost use Prim.Native.Nat.{_+_, _≤_, _<_};
-ghost use lib.ListN.{length, take};
-ghost use Rattle.layout.specs.Layout.{kindOf, controlOf, sizeOf, identityOctets, stampOctets, leadOctets, closeOctets, announceOctets, headerOctets, firstOctets, moreOctets, bodyOctets, over};
+ghost use lib.ListN.{length};
+ghost use Rattle.stores.specs.Stores.{over};
+ghost use Rattle.layout.specs.Layout.{kindOf, controlOf, sizeOf, identityOctets, stampOctets, leadOctets, closeOctets, announceOctets, headerOctets, firstOctets, moreOctets, bodyOctets};
 ghost use Rattle.layout.specs.Put.{startOctets, offsetOctets, grandmasterOctets};
 use message::fields::ANNOUNCE;
 use message::fields::Announce;
@@ -19,8 +20,6 @@ use message::fields::PortIdentity;
 use message::fields::SIGNALING;
 use message::fields::SYNC;
 use message::fields::Timestamp;
-
-mod put;
 
 // versionPTP.
 const VERSION: u8 = 2;
@@ -61,8 +60,8 @@ pub fn put_identity(out: &mut [u8], at: usize, p: PortIdentity)
     requires { ⌜ at + 10 ≤ length (now out) ⌝ }
     ensures { λ _. ⌜ now (out .exit) ≡ over (now (out .entry)) at (identityOctets p []) ⌝ }
 {
-    put::eight(out, at, p.clock);
-    put::two(out, at + 8, p.port as u64);
+    stores::eight(out, at, p.clock);
+    stores::two(out, at + 8, p.port as u64);
 }
 
 // A timestamp, ten octets.
@@ -70,8 +69,8 @@ pub fn put_stamp(out: &mut [u8], t: Timestamp)
     requires { ⌜ 44 ≤ length (now out) ⌝ }
     ensures { λ _. ⌜ now (out .exit) ≡ over (now (out .entry)) 34 (stampOctets t []) ⌝ }
 {
-    put::six(out, 34, t.seconds);
-    put::four(out, 40, t.nanoseconds as u64);
+    stores::six(out, 34, t.seconds);
+    stores::four(out, 40, t.nanoseconds as u64);
 }
 
 // Octets 0 to 7 of a header.
@@ -79,12 +78,12 @@ fn put_start(out: &mut [u8], h: Header, kind: u8, size: u16)
     requires { ⌜ (h .transport < 16) × (kind < 16) × (20 ≤ length (now out)) ⌝ }
     ensures { λ _. ⌜ now (out .exit) ≡ over (now (out .entry)) 0 (startOctets h kind size) ⌝ }
 {
-    put::one(out, 0, h.transport * 16 + kind);
-    put::one(out, 1, VERSION);
-    put::two(out, 2, size as u64);
-    put::one(out, 4, h.domain);
-    put::one(out, 5, RESERVED);
-    put::two(out, 6, h.flags as u64);
+    stores::one(out, 0, h.transport * 16 + kind);
+    stores::one(out, 1, VERSION);
+    stores::two(out, 2, size as u64);
+    stores::one(out, 4, h.domain);
+    stores::one(out, 5, RESERVED);
+    stores::two(out, 6, h.flags as u64);
 }
 
 // Octets 0 to 19 of a header.
@@ -94,8 +93,8 @@ pub fn put_lead(out: &mut [u8], h: Header, kind: u8, size: u16)
 {
     let correction = octets::bits64(h.correction);
     put_start(out, h, kind, size);
-    put::eight(out, 8, correction);
-    put::four(out, 16, 0);
+    stores::eight(out, 8, correction);
+    stores::four(out, 16, 0);
 }
 
 // Octets 30 to 33 of a header.
@@ -104,9 +103,9 @@ pub fn put_close(out: &mut [u8], h: Header, control: u8)
     ensures { λ _. ⌜ now (out .exit) ≡ over (now (out .entry)) 30 (closeOctets h control []) ⌝ }
 {
     let interval = octets::bits8(h.interval);
-    put::two(out, 30, h.sequence as u64);
-    put::one(out, 32, control);
-    put::one(out, 33, interval);
+    stores::two(out, 30, h.sequence as u64);
+    stores::one(out, 32, control);
+    stores::one(out, 33, interval);
 }
 
 // Octets 44 to 49 of an Announce.
@@ -115,11 +114,11 @@ fn put_offset(out: &mut [u8], a: Announce)
     ensures { λ _. ⌜ now (out .exit) ≡ over (now (out .entry)) 44 (offsetOctets a) ⌝ }
 {
     let utc = octets::bits16(a.utc);
-    put::two(out, 44, utc as u64);
-    put::one(out, 46, RESERVED);
-    put::one(out, 47, a.priority1);
-    put::one(out, 48, a.class);
-    put::one(out, 49, a.accuracy);
+    stores::two(out, 44, utc as u64);
+    stores::one(out, 46, RESERVED);
+    stores::one(out, 47, a.priority1);
+    stores::one(out, 48, a.class);
+    stores::one(out, 49, a.accuracy);
 }
 
 // Octets 50 to 63 of an Announce.
@@ -127,11 +126,11 @@ fn put_grandmaster(out: &mut [u8], a: Announce)
     requires { ⌜ 64 ≤ length (now out) ⌝ }
     ensures { λ _. ⌜ now (out .exit) ≡ over (now (out .entry)) 50 (grandmasterOctets a) ⌝ }
 {
-    put::two(out, 50, a.variance as u64);
-    put::one(out, 52, a.priority2);
-    put::eight(out, 53, a.grandmaster);
-    put::two(out, 61, a.steps as u64);
-    put::one(out, 63, a.timesource);
+    stores::two(out, 50, a.variance as u64);
+    stores::one(out, 52, a.priority2);
+    stores::eight(out, 53, a.grandmaster);
+    stores::two(out, 61, a.steps as u64);
+    stores::one(out, 63, a.timesource);
 }
 
 // Octets 44 to 63 of an Announce.
@@ -141,46 +140,6 @@ pub fn put_announce(out: &mut [u8], a: Announce)
 {
     put_offset(out, a);
     put_grandmaster(out, a);
-}
-
-// As many octets of `src` as make up whole eights go into `dst` from `at` on; how many that are.
-fn copy_eights(dst: &mut [u8], at: usize, src: &[u8]) -> usize
-    requires { ⌜ at + length (now src) ≤ length (now dst) ⌝ }
-    ensures count { λ r. ⌜ (r ≤ length (now (src .entry))) × (length (now (src .entry)) < r + 8) ⌝ }
-    ensures octets { λ r. ⌜ now (dst .exit) ≡ over (now (dst .entry)) at (take r (now (src .entry))) ⌝ }
-{
-    let mut i: usize = 0;
-    while 8 <= src.len() - i {
-        put::eight(dst, at + i, octets::held::u64_at(src, i));
-        i += 8;
-    }
-    i
-}
-
-// All of `src` goes into `dst` from `at` on, octet by octet.
-fn copy_each(dst: &mut [u8], at: usize, src: &[u8])
-    requires { ⌜ at + length (now src) ≤ length (now dst) ⌝ }
-    ensures { λ _. ⌜ now (dst .exit) ≡ over (now (dst .entry)) at (now (src .entry)) ⌝ }
-{
-    let mut i: usize = 0;
-    while i < src.len() {
-        dst[at + i] = src[i];
-        i += 1;
-    }
-}
-
-// All of `src` goes into `dst` from `at` on: whole eights, and the last eight once more where some octets are left.
-pub fn copy_in(dst: &mut [u8], at: usize, src: &[u8])
-    requires { ⌜ at + length (now src) ≤ length (now dst) ⌝ }
-    ensures { λ _. ⌜ now (dst .exit) ≡ over (now (dst .entry)) at (now (src .entry)) ⌝ }
-{
-    let n = src.len();
-    if n < 8 {
-        copy_each(dst, at, src);
-        return;
-    }
-    copy_eights(dst, at, src);
-    put::eight(dst, at + (n - 8), octets::held::u64_at(src, n - 8));
 }
 
 // The header of a message of `size` octets goes into the buffer.

@@ -91,7 +91,7 @@ pub fn take(words: &mut [u64; 72], port: u8, e: Event, out: &mut [u64; 18]) -> u
     ensures words { λ _. ⌜ now (words .exit) ≡ takeWords (now (words .entry)) port e ⌝ }
     ensures step { λ _. ⌜ now (out .exit) ≡ takenWords (takeAnswer (now (words .entry)) port e) (now (out .entry)) ⌝ }
 {
-    if !links::is_port(port) {
+    if !refusal::is_port(port) {
         return refusal::number(Refusal::Port);
     }
     let at = links::place(port);

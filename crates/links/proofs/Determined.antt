@@ -36,9 +36,6 @@ role-number-determined κs a x y v w p q = (p ∙ sym q, refl)
 pub look-determined : Fixes its.look.ended its.look.Reads.Post
 look-determined κs a x y v w p q = (p ∙ sym q, refl)
 
-pub is-port-determined : Fixes its.is_port.ended its.is_port.Reads.Post
-is-port-determined κs a x y v w p q = (p ∙ sym q, refl)
-
 pub place-determined : Fixes its.place.ended its.place.Reads.Post
 place-determined κs a x y v w p q = (p .0 ∙ sym (q .0), refl)
 

@@ -146,13 +146,6 @@ fn settings_of(w: u64, tx: u64, rx: u64) -> Settings
     }
 }
 
-// A port is 1 to 18.
-pub fn is_port(port: u8) -> bool
-    ensures { λ r. ⌜ r ≡ IsPort port ⌝ }
-{
-    (1 <= port) & (port <= refusal::PORTS as u8)
-}
-
 // Where a port's four words begin.
 pub fn place(port: u8) -> usize
     requires { ⌜ (1 ≤ port) × (port ≤ portCount) ⌝ }
@@ -166,7 +159,7 @@ pub fn set(words: &mut [u64; 72], port: u8, s: Settings) -> Outcome
     ensures answer { λ r. ⌜ r ≡ settingAnswer port s ⌝ }
     ensures exit { λ r. ⌜ now (words .exit) ≡ settingWords (now (words .entry)) port s ⌝ }
 {
-    if !is_port(port) {
+    if !refusal::is_port(port) {
         return Outcome::Refused(Refusal::Port);
     }
     if 3 < s.config {
@@ -186,7 +179,7 @@ pub fn take(words: &mut [u64; 72], port: u8, e: Event) -> Taken
     ensures answer { λ r. ⌜ r ≡ takeAnswer (now (words .entry)) port e ⌝ }
     ensures exit { λ r. ⌜ now (words .exit) ≡ takeWords (now (words .entry)) port e ⌝ }
 {
-    if !is_port(port) {
+    if !refusal::is_port(port) {
         return Taken::Refused(Refusal::Port);
     }
     let at = place(port);
@@ -201,7 +194,7 @@ pub fn take(words: &mut [u64; 72], port: u8, e: Event) -> Taken
 pub fn look(words: &[u64; 72], port: u8) -> Taken
     ensures { λ r. ⌜ r ≡ lookAnswer (now (words .entry)) port ⌝ }
 {
-    if !is_port(port) {
+    if !refusal::is_port(port) {
         return Taken::Refused(Refusal::Port);
     }
     let at = place(port);

@@ -4,7 +4,8 @@ ghost use mathlib.Core.Path.{_≡_};
 ghost use mathlib.Core.List.{[]};
 ghost use Prim.Native.Nat.{_≤_, _<_};
 ghost use lib.ListN.{length};
-ghost use Rattle.layout.specs.Layout.{kindOf, controlOf, sizeOf, headerOctets, bodyOctets, over};
+ghost use Rattle.stores.specs.Stores.{over};
+ghost use Rattle.layout.specs.Layout.{kindOf, controlOf, sizeOf, headerOctets, bodyOctets};
 ghost use Rattle.writer.specs.Writing.{stampFits, bodyFits, writeCheck, writeOf, bufferOf};
 ghost use Rattle.message_words.specs.Words.{stampOf, headerOf, bodyOf, messageOf};
 use refusal::Outcome;
@@ -154,7 +155,7 @@ pub fn write(out: &mut [u8], w: &[u64; 20], tail: &[u8], magic: u16) -> Written
             let n = size + tail.len();
             put_header(out, w, n as u16);
             put_body(out, w);
-            layout::copy_in(out, size, tail);
+            stores::copy_in(out, size, tail);
             Written::Octets(n)
         }
     }

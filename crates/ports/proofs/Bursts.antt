@@ -3,12 +3,12 @@
 use mathlib.Core.Path.{_≡_, refl, sym, ap, subst, _∙_}
 use mathlib.Core.Bool.{Bool, true, false, _&&_}
 use mathlib.Core.List.{List, [], _∷_, _++_, map}
-use Prim.Native.Nat.{ℕ, zero, suc, _+_, _-_, _*_, _/_, _%_, _≤_, _<_}
+use Prim.Native.Nat.{ℕ, zero, suc, _+_, _-_, _/_, _%_, _≤_, _<_}
 use native.Mathlib.Omega.{arith}
 use lib.Dec.{eqb, ltb, leb}
-use lib.ListN.{length, getD, set, drop, length-append}
-use lib.Seq.{getD-take, getD-drop, getD-set-other, ext-getD}
-use borrow.Author.Tests.{eqb-true, eqb-false, ltb-true, ltb-false, lt-ltb, le-ltb, le-leb}
+use lib.ListN.{length, getD, set, length-append}
+use lib.Seq.{getD-set-other, ext-getD}
+use borrow.Author.Tests.{eqb-true, eqb-false, ltb-true, ltb-false, lt-ltb, le-ltb}
 use Rattle.refusal.specs.Limits.{portCount}
 use Rattle.refusal.specs.Choice.{pick, refuse}
 use Rattle.refusal.specs.Refusal.{codeOf}
@@ -30,7 +30,7 @@ use Rattle.ports.specs.History.{Call, portOfCall, after, run, ownCalls, 
 use Rattle.ports.specs.Staying.{IsPlaceOf, StaysLive}
 use Rattle.ports.specs.Accepted.{acceptedOn, SteadyOn}
 use Rattle.ports.specs.Burst.{portIn, timeIn, octetsIn, callOf, callsOf, answerTo, answered, isMany, burstCheck, burstWords, burstRows, BurstWhen, many, done, Step, one, burst, stepAfter, steps, callsIn, ownRows, ownNumber, ownAnswered, swapAt, portWordAt, AlikeIn}
-use Rattle.ports.proofs.Follows.{after-none, after-all, frame, own-after, follows, same-words}
+use Rattle.ports.proofs.Follows.{word-of, port-of-word, after-none, after-all, frame, own-after, run-append, follows, same-words}
 use Rattle.ports.proofs.Ignored.{plan-same}
 use Rattle.ports.proofs.Staying.{keeps-place}
 use Rattle.ports.proofs.Accepted.{place-by-history}
@@ -52,10 +52,6 @@ when-burst ms n (many h) = rw (lt-ltb 288 (length ms) h) refl
 when-burst ms n (done h) = rw (le-ltb 288 (length ms) h) refl
 
 -- ---- split anywhere
-run-append : (ws : List ℕ) (cs ds : List Call) → run ws (cs ++ ds) ≡ run (run ws cs) ds
-run-append ws [] ds = refl
-run-append ws (c ∷ cs) ds = run-append (after ws c) cs ds
-
 fits : (ms : List (List ℕ)) (n : ℕ) → length ms ≤ n → n ≤ 288 → isMany ms ≡ false
 fits ms n h k = le-ltb 288 (length ms) (omega arith)
 
@@ -153,17 +149,8 @@ module _ (by : Settings) (o : List ℕ) (q : ℕ) (iq : isPort q ≡ true) where
 same-by-ports : (ws vs : List ℕ) → length ws ≡ 1764 → length vs ≡ 1764 → ((q : ℕ) → isPort q ≡ true → own ws q ≡ own vs q) → ws ≡ vs
 same-by-ports ws vs n k same = ext-getD 0 ws vs (n ∙ sym k) (λ i h. spot i (omega arith))
   where
-    inside : (ls : List ℕ) (i : ℕ) → getD ls i 0 ≡ getD (own ls (i / 98 + 1)) (i % 98) 0
-    inside ls i =
-        let b = 98 * (i / 98 + 1 - 1) in
-        let e : i ≡ b + i % 98 = omega arith in
-        ap (λ (j : ℕ). getD ls j 0) e ∙ sym (getD-take 98 (drop b ls) (i % 98) 0 (omega arith) ∙ getD-drop b ls (i % 98) 0)
-
     spot : (i : ℕ) → i < 1764 → getD ws i 0 ≡ getD vs i 0
-    spot i h =
-        let q = i / 98 + 1 in
-        let iq : isPort q ≡ true = rw (le-leb 1 q (omega arith), le-leb q 18 (omega arith)) refl in
-        inside ws i ∙ ap (λ (l : List ℕ). getD l (i % 98) 0) (same q iq) ∙ sym (inside vs i)
+    spot i h = word-of ws i ∙ ap (λ (l : List ℕ). getD l (i % 98) 0) (same (i / 98 + 1) (port-of-word i h)) ∙ sym (word-of vs i)
 
 calls-swap : (q : ℕ) (c d : Call) → (portOfCall c ≡ portOfCall d → ⊥) → (a b : Bool) → eqb (portOfCall c) q ≡ a → eqb (portOfCall d) q ≡ b
     → pick a (c ∷ pick b (d ∷ []) []) (pick b (d ∷ []) []) ≡ pick b (d ∷ pick a (c ∷ []) []) (pick a (c ∷ []) [])

@@ -2,14 +2,15 @@
 -- by them. So a port's state and answers are those of its own calls, whatever happens on the others.
 use mathlib.Core.Path.{_≡_, refl, sym, ap, subst, _∙_}
 use mathlib.Core.Bool.{Bool, true, false, not, _&&_}
-use mathlib.Core.List.{List, [], _∷_}
+use mathlib.Core.List.{List, [], _∷_, _++_}
 use mathlib.Core.Logic.{⊎-elim}
-use Prim.Native.Nat.{ℕ, _+_, _-_, _*_, _≤_, _<_}
+use Prim.Native.Nat.{ℕ, _+_, _-_, _*_, _/_, _%_, _≤_, _<_}
 use native.Mathlib.Omega.{arith}
 use lib.Dec.{eqb}
 use lib.IntN.{ℤ}
-use lib.ListN.{length, set, length-set, length-take, length-drop}
-use borrow.Author.Tests.{eqb-true, eqb-false}
+use lib.ListN.{length, getD, set, drop, length-set, length-take, length-drop}
+use lib.Seq.{getD-take, getD-drop}
+use borrow.Author.Tests.{eqb-true, eqb-false, le-leb}
 use Rattle.refusal.specs.Choice.{pick, refuse}
 use Rattle.refusal.specs.declared.Refusal.{Refusal}
 use Rattle.refusal.specs.declared.Refusal.the-variants.{Port, Field}
@@ -47,6 +48,16 @@ pub set-refusal-leaves : (ws : List ℕ) (port : ℕ) (k : ℤ) (x : Refusal) �
 set-refusal-leaves ws port k x e = set-leaves-by ws port (exponentOf k) x (isPort port) (isInterval k) e
 
 -- ---- a part of the words
+-- a word stands in the words of its port, which is one of the eighteen
+pub word-of : (ws : List ℕ) (i : ℕ) → getD ws i 0 ≡ getD (own ws (i / 98 + 1)) (i % 98) 0
+word-of ws i =
+    let b = 98 * (i / 98 + 1 - 1) in
+    let e : i ≡ b + i % 98 = omega arith in
+    ap (λ (j : ℕ). getD ws j 0) e ∙ sym (getD-take 98 (drop b ws) (i % 98) 0 (omega arith) ∙ getD-drop b ws (i % 98) 0)
+
+pub port-of-word : (i : ℕ) → i < 1764 → isPort (i / 98 + 1) ≡ true
+port-of-word i h = let q = i / 98 + 1 in rw (le-leb 1 q (omega arith), le-leb q 18 (omega arith)) refl
+
 module _ (ws : List ℕ) (n : length ws ≡ 1764) (port : ℕ) (ip : isPort port ≡ true) where
   room : 98 * (port - 1) + 98 ≤ length ws
   room = let b = port-bounds port ip in omega arith
@@ -145,6 +156,10 @@ module _ (ws : List ℕ) (n : length ws ≡ 1764) (c : Call) where
       go false e = subst P (sym (frame q iq (λ f. eqb-false _ _ e (sym f)))) before
 
 -- ---- histories
+pub run-append : (ws : List ℕ) (cs ds : List Call) → run ws (cs ++ ds) ≡ run (run ws cs) ds
+run-append ws [] ds = refl
+run-append ws (c ∷ cs) ds = run-append (after ws c) cs ds
+
 pub run-all : (ws : List ℕ) (cs : List Call) → length ws ≡ 1764 → length (run ws cs) ≡ 1764
 run-all ws [] n = n
 run-all ws (c ∷ cs) n = run-all (after ws c) cs (after-all ws n c)

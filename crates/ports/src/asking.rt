@@ -27,7 +27,7 @@ fn candidate_in(words: &[u64], port: u8, slot: usize, t: u64) -> Asked
     requires { ⌜ length (now words) ≡ allWords ⌝ }
     ensures { λ r. ⌜ r ≡ candidateOn (now (words .entry)) port slot t ⌝ }
 {
-    if !rank::is_port(port) {
+    if !refusal::is_port(port) {
         return Asked::Refused(Refusal::Port);
     }
     let b = crate::start(port);
@@ -45,7 +45,7 @@ fn best_in(words: &[u64], port: u8, t: u64) -> Asked
     requires { ⌜ length (now words) ≡ allWords ⌝ }
     ensures { λ r. ⌜ r ≡ bestOn (now (words .entry)) port t ⌝ }
 {
-    if !rank::is_port(port) {
+    if !refusal::is_port(port) {
         return Asked::Refused(Refusal::Port);
     }
     let b = crate::start(port);
@@ -73,7 +73,7 @@ fn status_in(words: &[u64], port: u8) -> Status
     requires { ⌜ length (now words) ≡ allWords ⌝ }
     ensures { λ r. ⌜ r ≡ statusOf (now (words .entry)) port ⌝ }
 {
-    if !rank::is_port(port) {
+    if !refusal::is_port(port) {
         return Status::Refused(Refusal::Port);
     }
     let b = crate::start(port);
@@ -91,7 +91,7 @@ fn look_in(words: &[u64], port: u8, slot: usize) -> Looked
     requires { ⌜ length (now words) ≡ allWords ⌝ }
     ensures { λ r. ⌜ r ≡ lookedAt (now (words .entry)) port slot ⌝ }
 {
-    if !rank::is_port(port) {
+    if !refusal::is_port(port) {
         return Looked::Refused(Refusal::Port);
     }
     let b = crate::start(port);

@@ -80,7 +80,7 @@ fn judge(h: Heard, set: Settings) -> Admitted
 fn admit(port: u8, s: &[u8], set: Settings) -> Admitted
     ensures { λ r. ⌜ r ≡ admittedOf set port (now (s .entry)) ⌝ }
 {
-    if !rank::is_port(port) {
+    if !refusal::is_port(port) {
         return Admitted::Refused(Refusal::Port);
     }
     let read = message::announce::read_announce(s, set.magic);

@@ -31,7 +31,7 @@ fn set_in(words: &mut [u64], port: u8, e: u8) -> Outcome
     requires { ⌜ length (now words) ≡ allWords ⌝ }
     ensures { λ r. ⌜ (r ≡ setBy port (inRange e)) × (now (words .exit) ≡ afterBy (now (words .entry)) port (inRange e) (e % 8)) ⌝ }
 {
-    if !rank::is_port(port) {
+    if !refusal::is_port(port) {
         return Outcome::Refused(Refusal::Port);
     }
     if !in_range(e) {

@@ -25,9 +25,6 @@ outranks-determined κs a x y v w p q = (p ∙ sym q, refl)
 pub earlier-determined : Fixes its.earlier.ended its.earlier.Reads.Post
 earlier-determined κs a x y v w p q = (p ∙ sym q, refl)
 
-pub is-port-determined : Fixes its.is_port.ended its.is_port.Reads.Post
-is-port-determined κs a x y v w p q = (p ∙ sym q, refl)
-
 pub empty-determined : Fixes its.empty.ended its.empty.Reads.Post
 empty-determined κs a x y v w p q = (p ∙ sym q, refl)
 

@@ -9,7 +9,7 @@ ghost use mathlib.Core.Path.{_≡_};
 ghost use mathlib.Core.List.{[]};
 ghost use Prim.Native.Nat.{min};
 ghost use Rattle.rank.specs.Order.{identityOf, gradeOf, lex, same, earlierOf};
-ghost use Rattle.rank.specs.Ranked.{isPort, blankOf, pack, unpack, leftOut, sinkOf, insertOf, insertAll, holdsOf, isRanked};
+ghost use Rattle.rank.specs.Ranked.{blankOf, pack, unpack, leftOut, sinkOf, insertOf, insertAll, holdsOf, isRanked};
 ghost use Rattle.rank.specs.Calls.{refusedOf, mergeOf, startOf, turnsOf, stepOf, rankingOf};
 use refusal::Outcome;
 use refusal::Refusal;
@@ -110,13 +110,6 @@ pub fn earlier(a: Candidate, b: Candidate) -> bool
         return a.port < b.port;
     }
     a.wrflags < b.wrflags
-}
-
-// Whether the clock has a port of this number.
-pub fn is_port(p: u8) -> bool
-    ensures { λ r. ⌜ r ≡ isPort p ⌝ }
-{
-    (1 <= p) & (p <= refusal::PORTS as u8)
 }
 
 // A ranked list: the first `len` of the slots. The slots past them say nothing.
@@ -271,7 +264,7 @@ pub fn is_ranked(r: Ranked) -> bool
     while i < n {
         let x = r.slots[i];
         let p = x.port;
-        if !is_port(p) {
+        if !refusal::is_port(p) {
             return false;
         }
         let mut j = i + 1;
@@ -345,7 +338,7 @@ fn step(s: Ranking, c: Candidate) -> Ranking
         return s;
     };
     let p = c.port;
-    if !is_port(p) {
+    if !refusal::is_port(p) {
         return refused(Refusal::Port);
     }
     let list = s.list;

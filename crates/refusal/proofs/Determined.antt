@@ -4,6 +4,9 @@ use mathlib.Core.Path.{_∙_, refl, sym}
 use Rattle.laws.proofs.Fixes.{Fixes}
 use Rattle.refusal.proofs as its
 
+pub is-port-determined : Fixes its.is_port.ended its.is_port.Reads.Post
+is-port-determined κs a x y v w p q = (p ∙ sym q, refl)
+
 pub number-determined : Fixes its.number.ended its.number.Reads.Post
 number-determined κs a x y v w p q = (p ∙ sym q, refl)
 

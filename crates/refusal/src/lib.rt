@@ -1,15 +1,23 @@
 // The numbers that refuse. A call that cannot be answered says why by one of these, and nothing that was
 // lent to it has changed. Which of them a call gives, and in which order it looks, is said where the call is.
 ghost use mathlib.Core.Path.{_≡_};
+ghost use Rattle.refusal.specs.Limits.{isPort};
 ghost use Rattle.refusal.specs.Refusal.{numberOf, placeOf, answerOf, codeOf};
 
 // The ports of the clock are numbered from 1 to this.
 pub const PORTS: usize = 18;
 
+// Whether the clock has a port of this number.
+pub fn is_port(p: u8) -> bool
+    ensures { λ r. ⌜ r ≡ isPort p ⌝ }
+{
+    (1 <= p) & (p <= PORTS as u8)
+}
+
 // The nanoseconds of a second.
 pub const SECOND_NANOS: u32 = 1_000_000_000;
 
-// The table's eighteen rows, by the names it gives them. What refuses a TLV says where in the message it stands.
+// The table's twenty rows, by the names it gives them. What refuses a TLV says where in the message it stands.
 pub enum Refusal {
     Short,
     Version,
@@ -29,9 +37,11 @@ pub enum Refusal {
     Room,
     Many,
     Field,
+    Long,
+    Block,
 }
 
-// The row's number, 1 to 18.
+// The row's number, 1 to 20.
 pub fn number(x: Refusal) -> u64
     ensures { λ r. ⌜ r ≡ numberOf x ⌝ }
 {
@@ -54,6 +64,8 @@ pub fn number(x: Refusal) -> u64
         Refusal::Room => 16,
         Refusal::Many => 17,
         Refusal::Field => 18,
+        Refusal::Long => 19,
+        Refusal::Block => 20,
     }
 }
 
@@ -80,6 +92,8 @@ fn place(x: Refusal) -> u16
         Refusal::Room => 0,
         Refusal::Many => 0,
         Refusal::Field => 0,
+        Refusal::Long => 0,
+        Refusal::Block => 0,
     }
 }
 

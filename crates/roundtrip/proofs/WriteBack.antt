@@ -19,6 +19,7 @@ use Rattle.refusal.specs.declared.Refusal.the-variants.{Room}
 use Rattle.refusal.specs.declared.Outcome.the-variants.{Done, Refused}
 use Rattle.octets.specs.Be.{be, octetsOf}
 use Rattle.octets.proofs.Laws.{Octets, be-bound}
+use Rattle.stores.proofs.Spread.{spread, octets-back, spread-all}
 use Rattle.message.specs.Fields.{typeOf, lengthOf, fixedSize, identityAt, stampOf, headerOf, announceOf, bodyOf, tailOf, messageOf}
 use Rattle.message.specs.Reading.{checkOf}
 use Rattle.message.specs.declared.fields.Body.{Body}
@@ -28,7 +29,6 @@ use Rattle.layout.specs.Layout.{kindOf, controlOf, sizeOf, identityOctets, stam
 use Rattle.writer.specs.Writing.{stampFits, bodyFits, writeCheck, writeOf, bufferOf}
 use Rattle.writer.specs.declared.writing.Written.the-variants as written
 use Rattle.roundtrip.specs.RoundTrip.{clearedHeader, cleared}
-use Rattle.layout.proofs.Spread.{spread, octets-back, spread-all}
 use Rattle.layout.proofs.Buffer.{append-rest, message-length}
 
 module _ (s : List ℕ) (o : Octets s) where

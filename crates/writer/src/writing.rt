@@ -90,7 +90,7 @@ pub fn write(out: &mut [u8], m: Message, tail: &[u8], magic: u16) -> Written
             let n = size + tail.len();
             layout::put_header(out, h, b, n as u16);
             layout::put_body(out, b);
-            layout::copy_in(out, size, tail);
+            stores::copy_in(out, size, tail);
             Written::Octets(n)
         }
     }

@@ -1,5 +1,5 @@
-//! The boundary clock as a host holds it from call to call: its settings, and
-//! the sender records and links of its eighteen ports.
+//! The boundary clock as a host holds it from call to call: its settings, the
+//! sender records and links of its eighteen ports, and a recording.
 
 use super::candidate::{check_port, Candidate, Quality, PORTS, PORT_COUNT};
 use super::comparison::DataSet;
@@ -8,6 +8,8 @@ use super::link::{Link, LinkEvent, LinkSettings, Step};
 use super::message::Body;
 use super::ranking::rank;
 use super::reading::{read, read_suffix};
+use super::received::Received;
+use super::recording::Recording;
 use super::refusal::{refuse_if, Refusal};
 use super::senders::{Announced, Senders};
 
@@ -21,18 +23,11 @@ pub struct Clock {
     senders: [Senders; PORT_COUNT],
     links: [Link; PORT_COUNT],
     link_settings: [LinkSettings; PORT_COUNT],
+    pub recording: Recording,
 }
 
 /// The most messages that are taken in one call, refused ones counted.
 const LONGEST_BURST: usize = 288;
-
-/// A message as a port received it.
-#[derive(Clone, Debug)]
-pub struct Received {
-    pub port: u8,
-    pub time: u64,
-    pub octets: Vec<u8>,
-}
 
 /// What every port is to be at a time, and what that follows from.
 #[derive(Clone, Debug, PartialEq, Eq)]
@@ -65,6 +60,7 @@ impl Clock {
             senders: [Senders::fresh(); PORT_COUNT],
             links: [Link::fresh(); PORT_COUNT],
             link_settings: [LinkSettings::default(); PORT_COUNT],
+            recording: Recording::beginning_at(0),
         }
     }
 
@@ -103,6 +99,14 @@ impl Clock {
     pub fn take_burst(&mut self, burst: &[Received]) -> Result<Vec<Result<(), Refusal>>, Refusal> {
         refuse_if(burst.len() > LONGEST_BURST, Refusal::Many)?;
         Ok(burst.iter().map(|received| self.take(received)).collect())
+    }
+
+    /// Lets every port forget all it has heard.  The intervals are settings and
+    /// stay, as all else does.
+    pub fn forget_senders(&mut self) {
+        for senders in &mut self.senders {
+            senders.forget();
+        }
     }
 
     /// What an Announce in our domain and from another clock tells.

@@ -1,7 +1,8 @@
-//! The rules of document 01, with requests (i) to (iii) of document 02, written
+//! The rules of document 01, with requests (i) to (iv) of document 02, written
 //! from these, the sources they name and the agreed readings alone.  Nothing
 //! here knows of lines or text.
 
+pub mod block;
 pub mod candidate;
 pub mod clock;
 pub mod comparison;
@@ -13,7 +14,10 @@ pub mod octets;
 pub mod origin;
 pub mod ranking;
 pub mod reading;
+pub mod received;
+pub mod recording;
 pub mod refusal;
+pub mod replay;
 pub mod senders;
 pub mod tlv;
 pub mod white_rabbit;

@@ -1,5 +1,5 @@
-//! The numbers that refuse, by the names of document 01's table, and the place
-//! in the message that document 02, (i), adds to two of them.
+//! The numbers that refuse, by the names of document 01's table and of document
+//! 02's requests, and the place in the message that (i) adds to two of them.
 
 /// Why a call is refused.
 #[derive(Clone, Copy, Debug, PartialEq, Eq)]
@@ -30,10 +30,14 @@ pub enum Refusal {
     Room,
     Many,
     Field,
+    /// A message too long to be recorded.
+    Long,
+    /// A block of a trace that fails one of its tests.
+    Block,
 }
 
 impl Refusal {
-    /// The number of the table.
+    /// The number of the table or of the request.
     pub fn number(self) -> u8 {
         match self {
             Refusal::Short => 1,
@@ -54,6 +58,8 @@ impl Refusal {
             Refusal::Room => 16,
             Refusal::Many => 17,
             Refusal::Field => 18,
+            Refusal::Long => 19,
+            Refusal::Block => 20,
         }
     }
 

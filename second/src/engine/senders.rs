@@ -77,6 +77,14 @@ impl Senders {
         }
     }
 
+    /// Makes the port one that has heard nothing, with the interval it has.
+    pub fn forget(&mut self) {
+        *self = Senders {
+            log_interval: self.log_interval,
+            ..Senders::fresh()
+        };
+    }
+
     /// Sets the interval: 18.
     pub fn set_interval(&mut self, log_interval: i8) -> Result<(), Refusal> {
         refuse_if(!LOG_INTERVALS.contains(&log_interval), Refusal::Field)?;
@@ -152,6 +160,20 @@ impl Senders {
             .filter(|(_, record)| record.is_qualified(time, window))
             .map(|(_, record)| candidate_of(&record.announced, port))
             .collect())
+    }
+
+    /// The records that make candidates at a time, in slot order, each with the
+    /// first moment at which its older receipt has left the window, where 64 bits
+    /// hold it.
+    pub fn silences(&self, time: u64) -> impl Iterator<Item = (u64, Record)> + '_ {
+        let window = self.window();
+        self.held()
+            .map(|(_, record)| record)
+            .filter(move |record| record.is_qualified(time, window))
+            .filter_map(move |record| {
+                let last = record.older?.checked_add(window)?;
+                Some((last.checked_add(1)?, record))
+            })
     }
 }
 

@@ -17,7 +17,9 @@ use crate::engine::message::{Message, MessageType};
 use crate::engine::origin::origin;
 use crate::engine::ranking::{merge, rank};
 use crate::engine::reading::{look_up, read, read_link_message, read_suffix, walk};
+use crate::engine::recording::Recording;
 use crate::engine::refusal::Refusal;
+use crate::engine::replay::replay;
 use crate::engine::white_rabbit::suffix_tlv;
 use crate::engine::writing::{write, write_signaling};
 
@@ -75,6 +77,10 @@ fn call(clock: &mut Clock, mut tokens: Tokens) -> Option<String> {
         b"best" => answer_best(clock, tokens),
         b"all" => answer_all(clock, tokens),
         b"records" => answer_records(clock, tokens),
+        b"record" => answer_record(clock, tokens),
+        b"trace" => answer_trace(clock, tokens),
+        b"recording" => answer_recording(clock, tokens),
+        b"replay" => answer_replay(clock, tokens),
         _ => None,
     }
 }
@@ -450,6 +456,45 @@ fn answer_records(clock: &Clock, mut tokens: Tokens) -> Option<String> {
     tokens.end()?;
     Some(match clock.senders(port) {
         Ok(senders) => format!("ok {}", show::records(senders)),
+        Err(refusal) => refused(refusal),
+    })
+}
+
+/// The answer of a call that hands back a block, where there is one.
+fn with_block(block: Option<Vec<u8>>) -> String {
+    format!("ok {}", show::octets(&block.unwrap_or_default()))
+}
+
+/// `record PORT TIME MESSAGE`
+fn answer_record(clock: &mut Clock, mut tokens: Tokens) -> Option<String> {
+    let received = message_tokens::received(&mut tokens)?;
+    tokens.end()?;
+    Some(match clock.recording.record(&received) {
+        Ok(closed) => with_block(closed),
+        Err(refusal) => refused(refusal),
+    })
+}
+
+/// `trace`
+fn answer_trace(clock: &Clock, tokens: Tokens) -> Option<String> {
+    tokens.end()?;
+    Some(with_block(clock.recording.open_block()))
+}
+
+/// `recording BLOCKNUMBER`
+fn answer_recording(clock: &mut Clock, mut tokens: Tokens) -> Option<String> {
+    let number = tokens.number()?;
+    tokens.end()?;
+    clock.recording = Recording::beginning_at(number);
+    Some(OK.to_string())
+}
+
+/// `replay TRACE`
+fn answer_replay(clock: &mut Clock, mut tokens: Tokens) -> Option<String> {
+    let trace = tokens.octets()?;
+    tokens.end()?;
+    Some(match replay(clock, &trace) {
+        Ok((time, decided)) => format!("ok {time} {}", show::decisions(&decided.ports)),
         Err(refusal) => refused(refusal),
     })
 }

@@ -2,8 +2,8 @@
 //! those that ports received.
 
 use super::tokens::Tokens;
-use crate::engine::clock::Received;
 use crate::engine::message::{Announce, Body, Header, MessageType, Timestamp};
+use crate::engine::received::Received;
 
 /// TRANSPORT DOMAIN FLAGS CORRECTION CLOCK PORT SEQUENCE INTERVAL
 pub fn header(tokens: &mut Tokens) -> Option<Header> {

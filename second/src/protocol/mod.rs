@@ -14,6 +14,10 @@ mod worked_distant;
 #[cfg(test)]
 mod worked_lines;
 #[cfg(test)]
+mod worked_recordings;
+#[cfg(test)]
+mod worked_replays;
+#[cfg(test)]
 mod worked_rows;
 #[cfg(test)]
 mod worked_tails;

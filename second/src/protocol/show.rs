@@ -134,12 +134,13 @@ pub fn verdict(verdict: Verdict) -> &'static str {
 
 /// The eighteen ports' decisions, then the list they follow from.
 pub fn decided(decided: &Decided) -> String {
-    let mut text = String::new();
-    for &port in &decided.ports {
-        text.push_str(decision(port));
-        text.push(' ');
-    }
-    text + &list(&decided.ranked)
+    format!("{} {}", decisions(&decided.ports), list(&decided.ranked))
+}
+
+/// Ports' decisions, one behind the other.
+pub fn decisions(ports: &[Decision]) -> String {
+    let names: Vec<&str> = ports.iter().map(|&port| decision(port)).collect();
+    names.join(" ")
 }
 
 /// A decision's name.

@@ -201,6 +201,7 @@ fn the_protocols_own_examples() {
     assert_eq!(walk("0000"), "ok 1 44 8 0");
     assert_eq!(walk("0001"), "refused 6 44");
     assert_eq!(only("burst 2 0 0 - 1 0 0b02"), "ok 2 refused 8 refused 1");
+    assert_eq!(only("record 1 0 -"), "ok -");
     assert_eq!(
         answers(&["", "# fresh", "fresh", " fresh"]),
         ["ok", "bad line"]

@@ -15,11 +15,12 @@ use super::ranking_lines::shuffled;
 use super::scene_lines::announced;
 use super::settings_lines::fresh_line;
 use super::steps::{any_steps, near_steps, stray_steps};
+use super::story::Story;
 use crate::engine::candidate::Candidate;
-use crate::engine::clock::{Clock, Received};
+use crate::engine::clock::Clock;
 use crate::engine::message::{MessageType, PortIdentity, HEADER_SIZE};
 use crate::engine::octets::u16_at;
-use crate::protocol::answer::answer;
+use crate::engine::received::Received;
 
 /// Longer than the window of any interval, so that all records are expired.
 const PAST_EVERY_WINDOW: u64 = 65_000_000_000;
@@ -28,60 +29,43 @@ const SEQUENCE_AT: usize = 30;
 /// Where an Announce's stepsRemoved stands.
 const STEPS_AT: usize = 61;
 
-/// Lines in the making, and the clock they lead to.
-struct Story {
-    clock: Clock,
-    lines: Vec<Vec<u8>>,
-}
-
 /// The lines of a burst, or of two by the same senders, and of questions behind
 /// it.
 pub fn burst_lines(random: &mut Random, clock: &Clock) -> Vec<Vec<u8>> {
-    let mut story = Story {
-        clock: clock.clone(),
-        lines: Vec::new(),
-    };
+    let mut story = Story::beginning(clock);
     if random.chance(1, 16) {
         story.say(fresh_line());
     }
     let mut messages = burst(random, &mut story.clock.clone());
-    story.take(random, &messages);
+    take(random, &mut story, &messages);
     if random.chance(1, 6) {
         messages = next_round(random, &messages);
-        story.take(random, &messages);
+        take(random, &mut story, &messages);
     }
-    story.ask(random, &messages);
+    ask(random, &mut story, &messages);
     story.lines
 }
 
-impl Story {
-    /// Adds a line.
-    fn say(&mut self, line: Vec<u8>) {
-        answer(&mut self.clock, &line);
-        self.lines.push(line);
-    }
+/// Adds the line of a burst.
+fn take(random: &mut Random, story: &mut Story, burst: &[Received]) {
+    story.lines.push(burst_line(random, burst));
+    let _ = story.clock.take_burst(burst);
+}
 
-    /// Adds the line of a burst.
-    fn take(&mut self, random: &mut Random, burst: &[Received]) {
-        self.lines.push(burst_line(random, burst));
-        let _ = self.clock.take_burst(burst);
+/// Asks for the records of a port that a burst was for and, half of the time,
+/// what follows from the records of another.
+fn ask(random: &mut Random, story: &mut Story, burst: &[Received]) {
+    if burst.is_empty() {
+        return;
     }
-
-    /// Asks for the records of a port that a burst was for and, half of the
-    /// time, what follows from the records of another.
-    fn ask(&mut self, random: &mut Random, burst: &[Received]) {
-        if burst.is_empty() {
-            return;
-        }
-        let port = some(random, burst).port;
-        self.say(records_line(random, port));
-        let port = some(random, burst).port;
-        match random.below(8) {
-            0 | 1 => self.say(line_of_candidates(random, &self.clock, port)),
-            2 => self.say(line_of_best(random, &self.clock, port)),
-            3 => self.say(all_line(random, &self.clock)),
-            _ => {}
-        }
+    let port = some(random, burst).port;
+    story.say(records_line(random, port));
+    let port = some(random, burst).port;
+    match random.below(8) {
+        0 | 1 => story.say(line_of_candidates(random, &story.clock, port)),
+        2 => story.say(line_of_best(random, &story.clock, port)),
+        3 => story.say(all_line(random, &story.clock)),
+        _ => {}
     }
 }
 

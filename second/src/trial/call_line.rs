@@ -3,8 +3,8 @@
 
 use super::random::Random;
 use crate::engine::candidate::Quality;
-use crate::engine::clock::Received;
 use crate::engine::message::PortIdentity;
+use crate::engine::received::Received;
 
 /// The tokens so far.
 pub struct CallLine {

@@ -33,10 +33,14 @@ pub enum Call {
     Best,
     All,
     Records,
+    Record,
+    Trace,
+    Recording,
+    Replay,
 }
 
 /// Every call with its name.
-pub const CALLS: [(&str, Call); 29] = [
+pub const CALLS: [(&str, Call); 33] = [
     ("fresh", Call::Fresh),
     ("clock", Call::Clock),
     ("domain", Call::Domain),
@@ -66,6 +70,10 @@ pub const CALLS: [(&str, Call); 29] = [
     ("best", Call::Best),
     ("all", Call::All),
     ("records", Call::Records),
+    ("record", Call::Record),
+    ("trace", Call::Trace),
+    ("recording", Call::Recording),
+    ("replay", Call::Replay),
 ];
 
 /// How many calls at the front of the list are settings without a port, which

@@ -14,6 +14,8 @@ use super::question_lines::{all_line, best_line};
 use super::random::Random;
 use super::ranking_lines::{decide_line, merge_line, parent_line, rank_line};
 use super::reading_lines as reading;
+use super::record_lines::{record_lines, recording_lines, trace_line};
+use super::replay_lines::replay_lines;
 use super::scene_lines::{later_line, scene_lines};
 use super::settings_lines as settings;
 use super::writing_lines::{signal_line, suffix_tlv_line, write_line};
@@ -118,6 +120,9 @@ impl Generator {
             Call::Parent if share < 2 => Call::Own,
             Call::Parent if share < 3 => Call::Clock,
             Call::Signal | Call::SuffixTlv if share < 3 => Call::Magic,
+            Call::Record if share < 3 => Call::Trace,
+            Call::Record if share < 4 => Call::Recording,
+            Call::Trace | Call::Recording if share < 28 => Call::Record,
             Call::Interval if share < 30 && self.calls.contains(&Call::Take) => Call::Take,
             _ => call,
         };
@@ -185,6 +190,19 @@ impl Generator {
             Call::Best => best_line(random, &self.clock),
             Call::All => all_line(random, &self.clock),
             Call::Records => history::any_records_line(random),
+            Call::Record => {
+                let lines = record_lines(random, &self.clock);
+                self.first_of(lines)
+            }
+            Call::Trace => trace_line(),
+            Call::Recording => {
+                let lines = recording_lines(random, &self.clock);
+                self.first_of(lines)
+            }
+            Call::Replay => {
+                let lines = replay_lines(random, &self.clock);
+                self.first_of(lines)
+            }
         }
     }
 }
@@ -386,15 +404,43 @@ mod tests {
     }
 
     #[test]
+    fn every_refusal_and_edge_of_a_recording_comes_often() {
+        let calls = "record,trace,recording";
+        let record = answers_of("record", calls, 6000);
+        let refusals = ["refused 8", "refused 11", "refused 17", "refused 19"];
+        assert_often(&record, 100, &refusals);
+        assert_often(&record, 300, &["ok -", "ok "]);
+        let last_number = |answer: &&String| answer.len() > 1000 && answer[7..15] == *"fffffffe";
+        assert!(record.iter().filter(last_number).count() > 20);
+        // Blocks that are filled to the last octet, and to one before it.
+        let closed = || record.iter().filter(|answer| answer.len() > 1000);
+        assert!(closed().filter(|block| !block.ends_with("00")).count() > 100);
+        let mut generator = Generator::new(calls_named(calls).unwrap(), 7);
+        let blocks: Vec<String> = (0..6000)
+            .map(|_| generator.next_vector())
+            .filter(|vector| vector.line == b"trace")
+            .filter_map(|vector| vector.answer)
+            .collect();
+        assert_often(&blocks, 10, &["ok -", "ok 0001", "ok ffff"]);
+    }
+
+    #[test]
+    fn replays_of_every_kind_come_often() {
+        let replay = answers_of("replay", "replay", 12_000);
+        assert_often(&replay, 1000, &["ok", "refused 20"]);
+        assert_often(&replay, 50, &["M1", "M2", "M3", "S1", "S2", "P1"]);
+        assert_often(&replay, 5, &["P2", "ok 0 "]);
+    }
+
+    #[test]
     fn every_call_is_answered_and_malformed() {
         for (name, _) in CALLS {
             let answers = answers_of(name, &format!("{name},{name}"), 2000);
             let bad = answers.iter().filter(|answer| *answer == "bad line");
             let bad = bad.count();
-            assert!(
-                bad > 0 && (name == "fresh" || bad < answers.len() / 2),
-                "{name}"
-            );
+            // Of these, only malformed lines have anything behind the name.
+            let is_bare = name == "fresh" || name == "trace";
+            assert!(bad > 0 && (is_bare || bad < answers.len() / 2), "{name}");
         }
     }
 

@@ -9,8 +9,9 @@ use super::messages::{self, Draft};
 use super::random::Random;
 use super::steps::any_steps;
 use super::values;
-use crate::engine::clock::{Clock, Received};
+use crate::engine::clock::Clock;
 use crate::engine::message::{Announce, Body, Header, PortIdentity, LISTED_TYPES};
+use crate::engine::received::Received;
 use crate::engine::senders::{Record, Senders};
 
 /// Lines of `take`: mostly one, now and then a flood of new names.

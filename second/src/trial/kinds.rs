@@ -76,6 +76,9 @@ fn kind_of(vector: &Vector) -> String {
         ),
         ("candidates", "ok") => format!("ok {} entries", words[1]),
         ("records", "ok") => format!("ok {} slots", words[3]),
+        ("record", "ok") if words[1] != "-" => "ok closes a block".to_string(),
+        ("trace", "ok") if words[1] != "-" => format!("ok {}", check_kind(words[1])),
+        ("replay", "ok") => format!("ok {}", different(&words[2..])),
         ("rank" | "merge", "ok") => format!("ok {} entries", words[1]),
         ("delay", "ok") => format!(
             "ok delay {} offset {} rest {}",
@@ -130,9 +133,23 @@ fn walked_kind(count: &str) -> &str {
 /// behind them has.
 fn decided_kind(words: &[&str]) -> String {
     let (decisions, list) = words.split_at(PORT_COUNT);
-    let different: BTreeSet<&str> = decisions.iter().copied().collect();
+    format!("ok {}, {} entries", different(decisions), list[0])
+}
+
+/// The words that are different, each once.
+fn different(words: &[&str]) -> String {
+    let different: BTreeSet<&str> = words.iter().copied().collect();
     let different: Vec<&str> = different.into_iter().collect();
-    format!("ok {}, {} entries", different.join(" "), list[0])
+    different.join(" ")
+}
+
+/// Whether the check word that a block begins with is at an end of its range.
+fn check_kind(block: &str) -> &'static str {
+    match &block[..4] {
+        "0001" => "least check",
+        "ffff" => "greatest check",
+        _ => "check between",
+    }
 }
 
 /// The type of the message that written octets begin with.

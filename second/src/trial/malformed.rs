@@ -42,9 +42,30 @@ const TOKENS: [&str; 34] = [
     "0x00000000000000000000000000000000000000000001",
 ];
 /// Names beside those of calls.
-const NAMES: [&str; 18] = [
-    "reads", "rea", "Read", "READ", "fresh1", "help", "vectors", "0", "al", "All", "bests",
-    "parents", "signals", "suffixtl", "walks", "wal", "bursts", "burs",
+const NAMES: [&str; 23] = [
+    "reads",
+    "rea",
+    "Read",
+    "READ",
+    "fresh1",
+    "help",
+    "vectors",
+    "0",
+    "al",
+    "All",
+    "bests",
+    "parents",
+    "signals",
+    "suffixtl",
+    "walks",
+    "wal",
+    "bursts",
+    "burs",
+    "recor",
+    "recordings",
+    "traces",
+    "replays",
+    "repla",
 ];
 
 /// The line one step away.
@@ -153,11 +174,12 @@ pub fn silent(random: &mut Random) -> Vec<u8> {
 /// A line at the greatest length or one past it, or a comment far beyond.
 pub fn longest(random: &mut Random) -> Vec<u8> {
     let length = LONGEST_LINE + random.place(2);
-    match random.below(5) {
+    match random.below(6) {
         0 => filled("magic ", b'0', length, "43981"),
         1 => filled("domain 0x", b'0', length, "0"),
         2 => filled("linkmessage 0c02002c", b'0', length, ""),
         3 => filled("burst 2 1 0 0b020040", b'0', length, " 2 0 -"),
+        4 => filled("record 18 0 ", b'0', length, ""),
         _ => filled("#", b' ', length + random.place(100_000), ""),
     }
 }

@@ -1,6 +1,6 @@
 //! The trial of one implementation against the other: lines made by seed and
-//! weighted to the edges, the comparison of two programs' answers, and a table
-//! of how often each answer came.
+//! weighted to the edges, the comparison of two programs' answers, a table of
+//! how often each answer came, and histories for a program to replay.
 
 pub mod bad_tails;
 pub mod burst_lines;
@@ -9,8 +9,10 @@ pub mod calls;
 pub mod candidates;
 pub mod compare;
 pub mod comparison_lines;
+pub mod damage;
 pub mod delay_lines;
 pub mod generator;
+pub mod histories;
 pub mod history_lines;
 pub mod kinds;
 pub mod link_lines;
@@ -21,9 +23,13 @@ pub mod question_lines;
 pub mod random;
 pub mod ranking_lines;
 pub mod reading_lines;
+pub mod record_lines;
+pub mod replay_lines;
 pub mod scene_lines;
 pub mod settings_lines;
 pub mod steps;
+pub mod story;
 pub mod tails;
+pub mod traces;
 pub mod values;
 pub mod writing_lines;

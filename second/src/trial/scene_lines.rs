@@ -13,12 +13,13 @@ use super::question_lines::{all_line, best_line, heard_ports, latest_time};
 use super::random::Random;
 use super::settings_lines as settings;
 use super::steps::{any_steps, scene_steps, stray_steps};
+use super::story::Story;
 use super::values;
 use crate::engine::candidate::{Candidate, Quality};
-use crate::engine::clock::{Clock, Received};
+use crate::engine::clock::Clock;
 use crate::engine::message::{Announce, Body, Header, PortIdentity};
+use crate::engine::received::Received;
 use crate::engine::senders::candidate_of;
-use crate::protocol::answer::answer;
 
 /// A time so late that the next scene begins afresh.
 const LATE: u64 = 1 << 62;
@@ -27,37 +28,59 @@ const SENDER_CLOCKS: u64 = 0x001b_19ff_fe00_0000;
 /// How many there are.
 const SENDER_CLOCK_COUNT: u64 = 18;
 
-/// A scene in the making: its lines, the clock they lead to, and whether each
-/// round of Announces is one burst.
+/// A scene in the making: its story, and whether each round of Announces is one
+/// burst.
 struct Scene {
-    clock: Clock,
-    lines: Vec<Vec<u8>>,
+    story: Story,
     in_bursts: bool,
 }
 
 /// The lines of a scene that ends with some of the questions asked for.
 pub fn scene_lines(random: &mut Random, clock: &Clock, asked: &[Call]) -> Vec<Vec<u8>> {
     let mut scene = Scene {
-        clock: clock.clone(),
-        lines: Vec::new(),
+        story: Story::beginning(clock),
         in_bursts: asked.contains(&Call::Burst) && random.chance(7, 8),
     };
-    scene.begin(random);
-    let base = base(random);
-    let own = own_quality(random, &base.quality);
-    scene.say(settings::line_of_own(random, &own));
-    let mut speakers = speakers(random, &scene.clock, &base);
+    let base = set_scene(random, &mut scene.story);
+    let mut speakers = speakers(random, &scene.story.clock, &base);
     if random.chance(1, 8) {
         let mirror = mirror(random, &base);
         speakers.push(mirror);
         scene.let_speak(random, &speakers);
-        scene.say(settings::line_of_clock(random, mirror.sender.clock));
+        scene
+            .story
+            .say(settings::line_of_clock(random, mirror.sender.clock));
     } else {
         scene.let_speak(random, &speakers);
         scene.turn(random, &speakers);
     }
     scene.ask(random, asked);
-    scene.lines
+    scene.story.lines
+}
+
+/// The settings before anybody speaks, and what most senders will announce.
+pub fn set_scene(random: &mut Random, story: &mut Story) -> Candidate {
+    if latest_time(&story.clock) > LATE || random.chance(1, 2) {
+        story.say(settings::fresh_line());
+    }
+    let any = values::clock(random);
+    let among = SENDER_CLOCKS + random.below(SENDER_CLOCK_COUNT);
+    let identity = random.pick(&[any, among, SENDER_CLOCKS + SENDER_CLOCK_COUNT / 2]);
+    story.say(settings::line_of_clock(random, identity));
+    if random.chance(1, 3) {
+        story.say(settings::domain_line(random));
+    }
+    if random.chance(1, 3) {
+        story.say(settings::magic_line(random));
+    }
+    for _ in 0..random.below(4) {
+        let port = port(random);
+        story.say(interval_line(random, port));
+    }
+    let base = base(random);
+    let own = own_quality(random, &base.quality);
+    story.say(settings::line_of_own(random, &own));
+    base
 }
 
 /// An Announce more from a sender that has a record, soon after all that was
@@ -83,39 +106,12 @@ pub fn later_line(random: &mut Random, clock: &Clock) -> Option<Vec<u8>> {
 }
 
 impl Scene {
-    /// Adds a line.
-    fn say(&mut self, line: Vec<u8>) {
-        answer(&mut self.clock, &line);
-        self.lines.push(line);
-    }
-
-    /// The settings before anybody speaks.
-    fn begin(&mut self, random: &mut Random) {
-        if latest_time(&self.clock) > LATE || random.chance(1, 2) {
-            self.say(settings::fresh_line());
-        }
-        let any = values::clock(random);
-        let among = SENDER_CLOCKS + random.below(SENDER_CLOCK_COUNT);
-        let identity = random.pick(&[any, among, SENDER_CLOCKS + SENDER_CLOCK_COUNT / 2]);
-        self.say(settings::line_of_clock(random, identity));
-        if random.chance(1, 3) {
-            self.say(settings::domain_line(random));
-        }
-        if random.chance(1, 3) {
-            self.say(settings::magic_line(random));
-        }
-        for _ in 0..random.below(4) {
-            let port = port(random);
-            self.say(interval_line(random, port));
-        }
-    }
-
     /// Lets the senders speak in two or three rounds; now and then one is not
     /// heard.  In some scenes they stray: an Announce may tell other steps than
     /// the sender's others.
     fn let_speak(&mut self, random: &mut Random, speakers: &[Candidate]) {
         let pace = random.pick(&[0, 1, 1_000, 1_000_000, 10_000_000, 40_000_000]);
-        let mut time = start_time(random, &self.clock);
+        let mut time = start_time(random, &self.story.clock);
         let rounds = random.pick(&[2, 2, 2, 3]);
         let they_stray = random.chance(1, 3);
         for _ in 0..rounds {
@@ -129,15 +125,15 @@ impl Scene {
                 if they_stray && random.chance(1, 4) {
                     speaker.steps_removed = stray_steps(random);
                 }
-                let received = announced(random, &self.clock, &speaker, time);
+                let received = announced(random, &self.story.clock, &speaker, time);
                 if self.in_bursts {
-                    burst.push(heard(&mut self.clock, received));
+                    burst.push(heard(&mut self.story.clock, received));
                 } else {
-                    self.say(line_of_take(random, &received));
+                    self.story.say(line_of_take(random, &received));
                 }
             }
             if self.in_bursts {
-                self.lines.push(line_of_burst(random, &burst));
+                self.story.lines.push(line_of_burst(random, &burst));
             }
         }
     }
@@ -150,13 +146,18 @@ impl Scene {
         }
         let speaker = random.pick(speakers);
         match random.below(6) {
-            0 | 1 => self.say(settings::line_of_clock(random, speaker.sender.clock)),
-            2 => self.say(settings::line_of_clock(random, speaker.grandmaster)),
-            3 => self.say(settings::own_line(random)),
-            4 => self.say(interval_line(random, speaker.port)),
+            0 | 1 => self
+                .story
+                .say(settings::line_of_clock(random, speaker.sender.clock)),
+            2 => self
+                .story
+                .say(settings::line_of_clock(random, speaker.grandmaster)),
+            3 => self.story.say(settings::own_line(random)),
+            4 => self.story.say(interval_line(random, speaker.port)),
             _ => {
-                self.say(settings::line_of_clock(random, speaker.sender.clock));
-                self.say(settings::own_line(random));
+                self.story
+                    .say(settings::line_of_clock(random, speaker.sender.clock));
+                self.story.say(settings::own_line(random));
             }
         }
     }
@@ -166,17 +167,17 @@ impl Scene {
         let asks = |call| asked.contains(&call) || asked.contains(&Call::Burst);
         for _ in 0..4 {
             if asks(Call::Best) {
-                self.say(best_line(random, &self.clock));
+                self.story.say(best_line(random, &self.story.clock));
             }
             if asks(Call::All) {
-                self.say(all_line(random, &self.clock));
+                self.story.say(all_line(random, &self.story.clock));
             }
         }
     }
 }
 
 /// What most senders of a scene announce.
-fn base(random: &mut Random) -> Candidate {
+pub fn base(random: &mut Random) -> Candidate {
     Candidate {
         quality: quality(random),
         steps_removed: scene_steps(random),
@@ -186,7 +187,7 @@ fn base(random: &mut Random) -> Candidate {
 
 /// Our own quality, near what most senders announce: of a class from 1 to 127,
 /// about as good; of another, mostly a little worse.
-fn own_quality(random: &mut Random, announced: &Quality) -> Quality {
+pub fn own_quality(random: &mut Random, announced: &Quality) -> Quality {
     let equal = announced.priority1;
     let worse = equal.saturating_add(1);
     let better = equal.saturating_sub(1);
@@ -211,7 +212,7 @@ fn own_quality(random: &mut Random, announced: &Quality) -> Quality {
 
 /// Who speaks on which port: most ports have one to three senders, now and then
 /// more than they have slots.
-fn speakers(random: &mut Random, clock: &Clock, base: &Candidate) -> Vec<Candidate> {
+pub fn speakers(random: &mut Random, clock: &Clock, base: &Candidate) -> Vec<Candidate> {
     let mut ports = all_ports(random);
     ports.truncate(random.pick(&[0, 1, 2, 4, 5, 6, 7, 8, 9, 12, 15, 18]));
     let alike = random.chance(2, 3);
@@ -306,7 +307,7 @@ fn sender(random: &mut Random, base: &Candidate, port: u8) -> PortIdentity {
 
 /// The time at which a scene begins: after all that was taken, or anywhere on a
 /// clock that took nothing.
-fn start_time(random: &mut Random, clock: &Clock) -> u64 {
+pub fn start_time(random: &mut Random, clock: &Clock) -> u64 {
     let latest = latest_time(clock);
     if latest > 0 {
         return later(random, latest, 4_000_000_000);
@@ -320,7 +321,7 @@ fn start_time(random: &mut Random, clock: &Clock) -> u64 {
 }
 
 /// A time at most so much later.
-fn later(random: &mut Random, time: u64, most: u64) -> u64 {
+pub fn later(random: &mut Random, time: u64, most: u64) -> u64 {
     time.saturating_add(random.below(most + 1))
 }
 

@@ -5,10 +5,10 @@ use Rattle.day.proofs.hours.Statement.{statement}
 use Rattle.day.proofs.hours.Tie as tie
 
 abbrev Inv-loop : tie.InvT-loop
-Inv-loop words₀ counts₀ strips₀ p₀ second₀ words counts strips p second = (second ≤ 86401)
+Inv-loop words₀ counts₀ strips₀ opened₀ tape₀ file p₀ second₀ words counts strips opened tape p second = (second ≤ 86401)
 
 abbrev μ-loop : tie.MeasureT-loop
-μ-loop words₀ counts₀ strips₀ p₀ second₀ words counts strips p second = 86400 - second
+μ-loop words₀ counts₀ strips₀ opened₀ tape₀ file p₀ second₀ words counts strips opened tape p second = 86400 - second
 
 pub hours-spec : {M : Type 1} → statement M
 hours-spec =
@@ -17,10 +17,12 @@ hours-spec =
     Inv-loop
     μ-loop
     (λ c κs. search needs)
+    (λ c κs. search needs)
     (λ c. search needs)
     (λ c κs. search needs)
     (λ c κs. search needs)
     (λ c. search needs)
     (λ c. search needs)
     (λ c. search needs)
+    (λ c κs. search needs)
     (λ c. search needs))

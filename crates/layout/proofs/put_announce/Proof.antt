@@ -1,9 +1,9 @@
 -- `put_announce` meets its contract: two parts, one behind the other.
 use mathlib.Core.Path.{refl}
 use native.Mathlib.Omega.{arith}
+use Rattle.stores.proofs.Buffer.{put-two}
 use Rattle.layout.specs.Layout.{announceOctets}
 use Rattle.layout.specs.Put.{offsetOctets, grandmasterOctets}
-use Rattle.layout.proofs.Buffer.{put-two}
 use borrow.Author.Needs.{needs}
 use Rattle.layout.proofs.put_announce.Statement.{statement}
 use Rattle.layout.proofs.put_announce.Tie as tie

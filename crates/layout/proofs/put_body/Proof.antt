@@ -4,8 +4,10 @@ use mathlib.Core.List.{[]}
 use Prim.Native.Nat.{_+_, _≤_}
 use native.Mathlib.Omega.{arith}
 use lib.ListN.{length}
-use Rattle.layout.specs.Layout.{firstOctets, moreOctets, over}
-use Rattle.layout.proofs.Buffer.{put-two, least, first-length, first-append}
+use Rattle.stores.specs.Stores.{over}
+use Rattle.stores.proofs.Buffer.{put-two}
+use Rattle.layout.specs.Layout.{firstOctets, moreOctets}
+use Rattle.layout.proofs.Buffer.{least, first-length, first-append}
 use borrow.Author.Needs.{needs}
 use Rattle.layout.proofs.put_body.Statement.{statement}
 use Rattle.layout.proofs.put_body.Tie as tie

@@ -7,8 +7,8 @@ use mir.Syntax.{w8}
 use mir.Val.{ofZ, SFits}
 use mir.ValLaws.{toZ-ofZ}
 use Rattle.octets.specs.Be.{octetsOf}
+use Rattle.stores.proofs.Buffer.{put-two}
 use Rattle.layout.specs.Layout.{closeOctets}
-use Rattle.layout.proofs.Buffer.{put-two}
 use borrow.Author.Needs.{needs}
 use Rattle.layout.proofs.put_close.Statement.{statement}
 use Rattle.layout.proofs.put_close.Tie as tie

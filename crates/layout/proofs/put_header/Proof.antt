@@ -3,8 +3,9 @@ use Prim.Native.Nat.{ℕ}
 use mathlib.Core.Path.{refl, ap}
 use mathlib.Core.List.{[], _++_}
 use native.Mathlib.Omega.{arith}
+use Rattle.stores.proofs.Buffer.{put-two}
 use Rattle.layout.specs.Layout.{kindOf, controlOf, leadOctets, identityOctets, closeOctets}
-use Rattle.layout.proofs.Buffer.{put-two, kind-below}
+use Rattle.layout.proofs.Buffer.{kind-below}
 use borrow.Author.Needs.{needs}
 use Rattle.layout.proofs.put_header.Statement.{statement}
 use Rattle.layout.proofs.put_header.Tie as tie

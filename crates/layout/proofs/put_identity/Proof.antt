@@ -3,8 +3,8 @@ use mathlib.Core.Path.{refl}
 use mathlib.Core.List.{[]}
 use native.Mathlib.Omega.{arith}
 use Rattle.octets.specs.Be.{octetsOf}
+use Rattle.stores.proofs.Buffer.{put-two}
 use Rattle.layout.specs.Layout.{identityOctets}
-use Rattle.layout.proofs.Buffer.{put-two}
 use borrow.Author.Needs.{needs}
 use Rattle.layout.proofs.put_identity.Statement.{statement}
 use Rattle.layout.proofs.put_identity.Tie as tie

@@ -7,9 +7,9 @@ use mir.Syntax.{w64}
 use mir.Val.{ofZ, SFits}
 use mir.ValLaws.{toZ-ofZ}
 use Rattle.octets.specs.Be.{octetsOf}
+use Rattle.stores.proofs.Buffer.{put-two}
 use Rattle.layout.specs.Layout.{leadOctets}
 use Rattle.layout.specs.Put.{startOctets}
-use Rattle.layout.proofs.Buffer.{put-two}
 use borrow.Author.Needs.{needs}
 use Rattle.layout.proofs.put_lead.Statement.{statement}
 use Rattle.layout.proofs.put_lead.Tie as tie

@@ -1,7 +1,7 @@
 -- `put_more` meets its contract: case by case, one part or none.
 use native.Mathlib.Omega.{arith}
+use Rattle.stores.proofs.Buffer.{put-none}
 use Rattle.message.specs.Fields.{fixedSize}
-use Rattle.layout.proofs.Buffer.{put-none}
 use borrow.Author.Needs.{needs}
 use Rattle.layout.proofs.put_more.Statement.{statement}
 use Rattle.layout.proofs.put_more.Tie as tie

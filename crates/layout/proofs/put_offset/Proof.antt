@@ -7,8 +7,8 @@ use mir.Syntax.{w16}
 use mir.Val.{ofZ, SFits}
 use mir.ValLaws.{toZ-ofZ}
 use Rattle.octets.specs.Be.{octetsOf}
+use Rattle.stores.proofs.Buffer.{put-two}
 use Rattle.layout.specs.Put.{offsetOctets}
-use Rattle.layout.proofs.Buffer.{put-two}
 use borrow.Author.Needs.{needs}
 use Rattle.layout.proofs.put_offset.Statement.{statement}
 use Rattle.layout.proofs.put_offset.Tie as tie

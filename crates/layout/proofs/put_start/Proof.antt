@@ -4,8 +4,8 @@ use mathlib.Core.Path.{refl}
 use mathlib.Core.List.{[], _∷_}
 use native.Mathlib.Omega.{arith}
 use Rattle.octets.specs.Be.{octetsOf}
+use Rattle.stores.proofs.Buffer.{put-two}
 use Rattle.layout.specs.Put.{startOctets}
-use Rattle.layout.proofs.Buffer.{put-two}
 use borrow.Author.Needs.{needs}
 use Rattle.layout.proofs.put_start.Statement.{statement}
 use Rattle.layout.proofs.put_start.Tie as tie

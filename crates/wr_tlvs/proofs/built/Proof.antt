@@ -6,8 +6,8 @@ use Prim.Native.Nat.{ℕ, _+_}
 use native.Mathlib.Omega.{arith}
 use lib.Seq.{drop-length}
 use Rattle.octets.specs.Be.{octetsOf}
+use Rattle.stores.proofs.Spread.{spread, spread-all}
 use Rattle.tlv.specs.Form.{wrForm}
-use Rattle.layout.proofs.Spread.{spread, spread-all}
 use Rattle.wr_tlvs.specs.Built.{wrOctets}
 use borrow.Author.Needs.{needs}
 use Rattle.wr_tlvs.proofs.built.Statement.{statement}

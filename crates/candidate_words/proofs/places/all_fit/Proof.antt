@@ -16,7 +16,7 @@ use Rattle.candidate_words.proofs.places.all_fit.Tie as tie
 use Rattle.candidate_words.proofs.places.all_fit.Reads as reads
 use Rattle.candidate_words.proofs.places.all_fit.Lts as lts
 use Rattle.candidate_words.proofs.fits.one_fits.Reads as one-fits-reads
-use Rattle.rank.proofs.is_port.Reads as is-port-reads
+use Rattle.refusal.proofs.is_port.Reads as is-port-reads
 use Rattle.words.proofs.port_of.Reads as port-of-reads
 
 abbrev Inv-loop : tie.InvT-loop

@@ -14,7 +14,7 @@ use Rattle.candidate_words.proofs.places.checked.Tie as tie
 use Rattle.candidate_words.proofs.places.checked.Reads as reads
 use Rattle.candidate_words.proofs.places.checked.Lts as lts
 use Rattle.candidate_words.proofs.fits.one_fits.Reads as one-fits-reads
-use Rattle.rank.proofs.is_port.Reads as is-port-reads
+use Rattle.refusal.proofs.is_port.Reads as is-port-reads
 use Rattle.words.proofs.port_of.Reads as port-of-reads
 
 abbrev Inv-loop : tie.InvT-loop

@@ -4,13 +4,15 @@ use mathlib.Core.Path.{_≡_, ap, sym, _∙_}
 use mathlib.Core.List.{List, []}
 use native.Mathlib.Omega.{arith}
 use lib.ListN.{length}
+use Rattle.stores.specs.Stores.{over}
+use Rattle.stores.proofs.Buffer.{put-two}
 use Rattle.message.specs.Fields.{fixedSize}
 use Rattle.message.specs.declared.fields.Timestamp.{Timestamp}
 use Rattle.message.specs.declared.fields.PortIdentity.{PortIdentity}
 use Rattle.message.specs.declared.fields.Announce.{Announce}
 use Rattle.message.specs.declared.fields.Body.{Body}
-use Rattle.layout.specs.Layout.{sizeOf, stampOctets, identityOctets, announceOctets, firstOctets, moreOctets, bodyOctets, over}
-use Rattle.layout.proofs.Buffer.{put-two, least, first-length, first-append}
+use Rattle.layout.specs.Layout.{sizeOf, stampOctets, identityOctets, announceOctets, firstOctets, moreOctets, bodyOctets}
+use Rattle.layout.proofs.Buffer.{least, first-length, first-append}
 use Rattle.message_words.specs.Words.{bodyOf, announceOf}
 use Rattle.message_words.proofs.Bodies.{body-sync, body-delay-req, body-follow-up, body-delay-resp, body-announce, body-signaling}
 use borrow.Author.Needs.{needs}

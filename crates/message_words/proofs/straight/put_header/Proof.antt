@@ -2,9 +2,10 @@
 use mathlib.Core.Path.{_≡_, refl, ap}
 use mathlib.Core.List.{[], _++_}
 use native.Mathlib.Omega.{arith}
+use Rattle.stores.proofs.Buffer.{put-two}
 use Rattle.message.specs.declared.fields.Header.{Header}
 use Rattle.layout.specs.Layout.{kindOf, controlOf, leadOctets, identityOctets, closeOctets}
-use Rattle.layout.proofs.Buffer.{put-two, kind-below}
+use Rattle.layout.proofs.Buffer.{kind-below}
 use Rattle.message_words.specs.Words.{headerOf, bodyOf}
 use borrow.Author.Needs.{needs}
 use Rattle.message_words.proofs.straight.put_header.Statement.{statement}

@@ -1,0 +1,5 @@
+pub mod TestLaws
+pub mod Made
+pub mod Walked
+pub mod Check
+mod Determined

@@ -1,0 +1,5 @@
+pub mod Layout
+pub mod Check
+pub mod Tests
+pub mod Making
+pub mod Walking

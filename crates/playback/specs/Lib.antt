@@ -1,0 +1,4 @@
+pub mod Playback
+pub mod Streaming
+pub mod Live
+pub mod When

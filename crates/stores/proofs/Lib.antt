@@ -1,0 +1,4 @@
+pub mod Buffer
+pub mod Spread
+pub mod Determined
+pub mod Low

@@ -1,0 +1,2 @@
+pub mod Taped
+pub mod Whole
