@@ -55,9 +55,27 @@ fn beat(
 ) -> Parent {
     let turn = cast::turn();
     rise::begun(old.port, old.flags, second);
-    cast::hear(words, counts, opened, tape, file, second, cast::begin(second), turn);
+    cast::hear(
+        words,
+        counts,
+        opened,
+        tape,
+        file,
+        second,
+        cast::begin(second),
+        turn,
+    );
     let new = watched(words, old, cast::instant(second));
-    cast::hear(words, counts, opened, tape, file, second, turn, cast::end(second));
+    cast::hear(
+        words,
+        counts,
+        opened,
+        tape,
+        file,
+        second,
+        turn,
+        cast::end(second),
+    );
     let port = cast::told(counts, second);
     board::kept::meanwhile(words, port, cast::flood_end(second), new);
     new
