@@ -307,46 +307,42 @@ fn echo(second: u64) -> Said {
 
 // ---- All that is heard
 
-// What tenants do behind the beat of a second.
-enum Tenants {
+// What tenants make of a second, behind its beat.
+enum Trouble {
     Nothing,
     Cable,
     Flood(u8),
     Echo,
 }
 
-fn tenants_at(second: u64) -> Tenants {
+fn trouble_at(second: u64) -> Trouble {
     let h = second / 3600;
     let into = second % 3600;
     if (h == LOOP) & (into < LOOPED) {
-        return Tenants::Cable;
+        return Trouble::Cable;
     }
     if CIRCLES <= second {
-        return Tenants::Echo;
+        return Trouble::Echo;
     }
     let port = flooded(h);
     if (port != 0) & (into < FLOODED) {
-        return Tenants::Flood(port);
+        return Trouble::Flood(port);
     }
-    Tenants::Nothing
+    Trouble::Nothing
 }
 
-// The Announces of a second are numbered: from `begin` to `turn` those of the beat, from there to `end` those of the tenants. The first
-// of the beat is the first master's.
-pub fn begin(second: u64) -> u64 {
+// The Announces of a second are numbered. The first SPEAKERS are those of the beat; the first master's, number 0, is left out while it is not there.
+fn begin(second: u64) -> u64 {
     if is_first(second) { 0 } else { 1 }
 }
 
-pub fn turn() -> u64 {
-    SPEAKERS
-}
-
-pub fn end(second: u64) -> u64 {
-    match tenants_at(second) {
-        Tenants::Nothing => SPEAKERS,
-        Tenants::Cable => SPEAKERS + 1,
-        Tenants::Flood(_) => SPEAKERS + 2 * NAMES,
-        Tenants::Echo => SPEAKERS + 1,
+// The others, up to this number, are the tenants'.
+fn end(second: u64) -> u64 {
+    match trouble_at(second) {
+        Trouble::Nothing => SPEAKERS,
+        Trouble::Cable => SPEAKERS + 1,
+        Trouble::Flood(_) => SPEAKERS + 2 * NAMES,
+        Trouble::Echo => SPEAKERS + 1,
     }
 }
 
@@ -355,11 +351,11 @@ fn announced(k: u64, second: u64) -> Said {
     if k < SPEAKERS {
         return regular(k, second);
     }
-    match tenants_at(second) {
-        Tenants::Nothing => looped(second),
-        Tenants::Cable => looped(second),
-        Tenants::Flood(port) => new_name(port, second, k - SPEAKERS),
-        Tenants::Echo => echo(second),
+    match trouble_at(second) {
+        Trouble::Nothing => looped(second),
+        Trouble::Cable => looped(second),
+        Trouble::Flood(port) => new_name(port, second, k - SPEAKERS),
+        Trouble::Echo => echo(second),
     }
 }
 
@@ -382,7 +378,7 @@ fn heard(
 }
 
 // The Announces of a second from number `from` to `to`, one after another.
-pub fn hear(
+fn hear(
     words: &mut [u64; ports::WORDS],
     counts: &mut [u64; COUNTS],
     opened: &mut [u8; block::OCTETS],
@@ -458,17 +454,62 @@ fn echo_told(counts: &[u64; COUNTS], t: u64, steps: u16) {
 }
 
 // What tenants did at a second: the port on which a flood is over with it, else 0.
-pub fn told(counts: &[u64; COUNTS], second: u64) -> u8 {
-    match tenants_at(second) {
-        Tenants::Nothing => 0,
-        Tenants::Cable => {
+fn told(counts: &[u64; COUNTS], second: u64) -> u8 {
+    match trouble_at(second) {
+        Trouble::Nothing => 0,
+        Trouble::Cable => {
             loop_told(counts, second);
             0
         }
-        Tenants::Flood(port) => flood_told(counts, port, second),
-        Tenants::Echo => {
+        Trouble::Flood(port) => flood_told(counts, port, second),
+        Trouble::Echo => {
             echo_told(counts, instant(second), rounds(second));
             0
         }
     }
+}
+
+// ---- A second
+
+// What every beat brings: an Announce of each of those that are there.
+pub fn beat(
+    words: &mut [u64; ports::WORDS],
+    counts: &mut [u64; COUNTS],
+    opened: &mut [u8; block::OCTETS],
+    tape: &mut [u64; recording::WORDS],
+    file: i32,
+    second: u64,
+) {
+    hear(
+        words,
+        counts,
+        opened,
+        tape,
+        file,
+        second,
+        begin(second),
+        SPEAKERS,
+    );
+}
+
+// What the tenants do behind the beat of a second: the port on which a flood is over with it, else 0.
+pub fn tenants(
+    words: &mut [u64; ports::WORDS],
+    counts: &mut [u64; COUNTS],
+    opened: &mut [u8; block::OCTETS],
+    tape: &mut [u64; recording::WORDS],
+    file: i32,
+    second: u64,
+) -> u8 {
+    hear(
+        words,
+        counts,
+        opened,
+        tape,
+        file,
+        second,
+        SPEAKERS,
+        end(second),
+    );
+    told(counts, second)
 }
