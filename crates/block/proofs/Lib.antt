@@ -2,4 +2,5 @@ pub mod TestLaws
 pub mod Made
 pub mod Walked
 pub mod Check
+pub mod Witnesses
 mod Determined
