@@ -1,13 +1,12 @@
-// What the ports keep and how it ranks, as the program `day` tells it: a port's live records, the record of a sender, who the parent is
-// and why it is another than before, what each card ranks, and the table of ports. Everything is asked of the engine. No contract can say what
+// What the ports keep and how it ranks, as the program `day` tells it: a port's live records, the record of a sender, why a parent
+// is another than before, what each card ranks, and the table of ports. Everything is asked of the engine. No contract can say what
 // is printed, so but for `cards::ranked` its functions have none that fixes an answer: they are proved to end and to stay in
 // bounds, and what they print is compared with a stored page.
 use rank::Candidate;
 
 pub mod cards;
-mod change;
+pub mod change;
 pub mod kept;
-pub mod lead;
 pub mod table;
 
 // The parent: a clock, the port that hears it, and its wrFlags; port 0 where our own clock leads.

@@ -4,6 +4,8 @@
 use board::Parent;
 use page::tally::COUNTS;
 
+mod lead;
+
 // The beat of a second: a link may begin, who is there speaks, the parent is asked for, and the tenants do what they do.
 fn beat(
     words: &mut [u64; ports::WORDS],
@@ -16,7 +18,7 @@ fn beat(
 ) -> Parent {
     rise::begun(old.port, old.flags, second);
     cast::beat(words, counts, opened, tape, file, second);
-    let new = board::lead::watched(words, old, cast::instant(second), cast::own());
+    let new = lead::watched(words, old, cast::instant(second), cast::own());
     let port = cast::tenants(words, counts, opened, tape, file, second);
     board::kept::meanwhile(words, port, cast::flood_end(second), new);
     new
@@ -42,7 +44,7 @@ fn hours(words: &mut [u64; ports::WORDS], counts: &mut [u64; COUNTS], strips: &m
     let mut opened = [0u8; block::OCTETS];
     let mut tape = [0u64; recording::WORDS];
     let file = cast::tape::file();
-    let mut p = board::lead::ours(cast::own());
+    let mut p = lead::ours(cast::own());
     let mut second: u64 = 0;
     while second < 86_400 {
         p = beat(words, counts, &mut opened, &mut tape, file, second, p);
@@ -57,7 +59,7 @@ fn end(words: &[u64; ports::WORDS], counts: &[u64; COUNTS]) {
     let t = cast::instant(86_399);
     let mut now = [0u8; refusal::PORTS];
     election::decide_all(words, cast::own(), t, &mut now);
-    let p = board::lead::by_cards(words, t, cast::own());
+    let p = lead::by_cards(words, t, cast::own());
     board::table::told(words, counts, &now, t, p);
     cast::exchange::told(counts, p.clock);
 }

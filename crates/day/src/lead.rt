@@ -1,7 +1,5 @@
 // Who the parent is: by the cards' merged lists, or by the ports' bests; and a change of it.
-use crate::Parent;
-use crate::cards;
-use crate::change;
+use board::Parent;
 use election::Leader;
 use rank::Grandmaster;
 
@@ -16,7 +14,7 @@ pub fn ours(own: Grandmaster) -> Parent {
 
 fn led_by(x: Leader, own: Grandmaster) -> Parent {
     match x {
-        Leader::Master(c) => crate::sender_of(c),
+        Leader::Master(c) => board::sender_of(c),
         Leader::Ours => ours(own),
         Leader::Refused(_) => ours(own),
     }
@@ -24,7 +22,7 @@ fn led_by(x: Leader, own: Grandmaster) -> Parent {
 
 // The parent at `t`, from the cards' merged lists.
 pub fn by_cards(words: &[u64; ports::WORDS], t: u64, own: Grandmaster) -> Parent {
-    led_by(election::parent(own, cards::all(words, t)), own)
+    led_by(election::parent(own, board::cards::all(words, t)), own)
 }
 
 // The same, from the ports' bests, which is faster.
@@ -38,7 +36,7 @@ fn by_ports(words: &[u64; ports::WORDS], t: u64, own: Grandmaster) -> Parent {
 pub fn watched(words: &[u64; ports::WORDS], old: Parent, t: u64, own: Grandmaster) -> Parent {
     let new = by_ports(words, t, own);
     if (new.clock != old.clock) | (new.port != old.port) {
-        change::told(words, old, new, t, own);
+        board::change::told(words, old, new, t, own);
     }
     new
 }
