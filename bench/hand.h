@@ -21,7 +21,7 @@ extern __typeof__(dz_trace_record) c_trace_record;
 extern __typeof__(dz_replay_block) c_replay_block;
 extern __typeof__(dz_replay) c_replay;
 extern __typeof__(dz_link_take) c_link_take;
-extern __typeof__(dz_measure) c_measure;
+extern __typeof__(dz_measure) c_measure, c_measure_shifting;
 
 static inline int is_port(uint64_t port) { return port >= 1 && port <= DZ_PORTS; }
 

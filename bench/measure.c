@@ -1,4 +1,4 @@
-/* Delay and offset by hand in C, with 128-bit integers: the same limits, the same floors. */
+/* Delay and offset by hand in C, twice: with 128-bit integers, and without a multiplication or a division. The same limits, the same floors. */
 #include "hand.h"
 
 typedef __int128 wide;
@@ -38,5 +38,83 @@ dz_answer c_measure(const uint64_t *x, uint64_t *measured)
     measured[DZ_D_DELAY] = (uint64_t)delay;
     measured[DZ_D_SECONDS] = (uint64_t)seconds;
     measured[DZ_D_REST] = (uint64_t)(offset - seconds * second);
+    return DZ_OK;
+}
+
+/* The same for a processor that neither multiplies nor divides: products and quotients by shifting, comparing, adding and subtracting. */
+
+typedef unsigned __int128 long_word;
+
+/* k times n, a binary digit of k at a time. */
+static long_word times(uint64_t k, uint64_t n)
+{
+    long_word sum = 0, unit = n;
+    for (; k; k >>= 1, unit += unit)
+        if (k & 1) sum += unit;
+    return sum;
+}
+
+/* n divided by d: d is moved up to the first digit of n, and taken off on its way down. Once for a word, and once for two. */
+static uint64_t divided(uint64_t n, uint64_t d)
+{
+    uint64_t unit = d, whole = 0;
+    int digits = 0;
+    for (; unit <= n >> 1; unit += unit) digits++;
+    for (; digits >= 0; digits--, unit >>= 1) {
+        whole += whole;
+        if (n >= unit) n -= unit, whole++;
+    }
+    return whole;
+}
+
+static uint64_t long_divided(long_word n, uint64_t d, uint64_t *rest)
+{
+    long_word unit = d;
+    uint64_t whole = 0;
+    int digits = 0;
+    for (; unit <= n >> 1; unit += unit) digits++;
+    for (; digits >= 0; digits--, unit >>= 1) {
+        whole += whole;
+        if (n >= unit) n -= unit, whole++;
+    }
+    *rest = (uint64_t)n;
+    return whole;
+}
+
+enum { FARTHEST = 16 };
+static const int64_t scaled_second = (int64_t)1000000000 << 16;
+
+/* How far stamp a is from stamp b, with more to add; 0 where that is outside its limit. No more than so many seconds can be made up for. */
+static int is_near(const uint64_t *a, const uint64_t *b, int64_t more, int64_t *span)
+{
+    int64_t seconds = (int64_t)(a[0] - b[0]), whole;
+    if (seconds > FARTHEST || seconds < -FARTHEST) return 0;
+    whole = seconds < 0 ? -(int64_t)times((uint64_t)-seconds, (uint64_t)scaled_second) : (int64_t)times((uint64_t)seconds, (uint64_t)scaled_second);
+    *span = whole + (int64_t)((a[1] - b[1]) << 16) + more;
+    return !outside(*span, 47);
+}
+
+/* floor((2^40 + a) z / (2^41 + a)). */
+static int64_t shared(int64_t a, int64_t z)
+{
+    uint64_t p = ((uint64_t)1 << 40) + (uint64_t)a, rest, whole = long_divided(times(z < 0 ? -(uint64_t)z : (uint64_t)z, p), p + ((uint64_t)1 << 40), &rest);
+    return z < 0 ? -(int64_t)(whole + (rest != 0)) : (int64_t)whole;
+}
+
+dz_answer c_measure_shifting(const uint64_t *x, uint64_t *measured)
+{
+    int64_t outer, inner, delay, seconds, parts, before = (int64_t)x[DZ_E_SYNC] + (int64_t)x[DZ_E_FOLLOW];
+    uint64_t one = x[DZ_E_MASTER_TX] + x[DZ_E_SLAVE_RX];
+    if (!in_range(x)) return DZ_REFUSED_RANGE;
+    if (!is_near(x + DZ_E_T4_SECONDS, x + DZ_E_T1_SECONDS, -(int64_t)x[DZ_E_RESP] - before, &outer)
+        || !is_near(x + DZ_E_T3_SECONDS, x + DZ_E_T2_SECONDS, (int64_t)(x[DZ_E_T3_FRACTION] - x[DZ_E_T2_FRACTION]), &inner)) return DZ_REFUSED_RANGE;
+    delay = shared((int64_t)x[DZ_E_ASYMMETRY], outer - inner - (int64_t)divided(one + x[DZ_E_MASTER_RX] + x[DZ_E_SLAVE_TX], 1000)) + (int64_t)divided(one, 1000);
+    seconds = (int64_t)(x[DZ_E_T2_SECONDS] - x[DZ_E_T1_SECONDS]);
+    parts = (int64_t)((x[DZ_E_T2_NANOS] - x[DZ_E_T1_NANOS]) << 16) + (int64_t)x[DZ_E_T2_FRACTION] - before - delay;
+    for (; parts < 0; parts += scaled_second) seconds--;
+    for (; parts >= scaled_second; parts -= scaled_second) seconds++;
+    measured[DZ_D_DELAY] = (uint64_t)delay;
+    measured[DZ_D_SECONDS] = (uint64_t)seconds;
+    measured[DZ_D_REST] = (uint64_t)parts;
     return DZ_OK;
 }

@@ -213,14 +213,35 @@ static void slave_present(struct lent *m)
     __builtin_memcpy(m->before, m->links, sizeof m->links);
 }
 
-static void typical_exchange(struct lent *m)
+/* Over 500 m of fibre, some 2,500 ns one way, with latencies of some 200 ns. */
+static void put_exchange(struct lent *m, int64_t asymmetry)
 {
     const uint64_t exchange[DZ_EXCHANGE_WORDS] = {
         [DZ_E_T1_SECONDS] = 1700000000, [DZ_E_T1_NANOS] = 123456789, [DZ_E_SYNC] = 1 << 20, [DZ_E_FOLLOW] = 3 << 18,
-        [DZ_E_T2_SECONDS] = 1700000000, [DZ_E_T2_NANOS] = 123999999, [DZ_E_T2_FRACTION] = 4660,
+        [DZ_E_T2_SECONDS] = 1700000000, [DZ_E_T2_NANOS] = 123459731, [DZ_E_T2_FRACTION] = 4660,
         [DZ_E_T3_SECONDS] = 1700000000, [DZ_E_T3_NANOS] = 500000000, [DZ_E_T3_FRACTION] = 22136,
-        [DZ_E_T4_SECONDS] = 1700000000, [DZ_E_T4_NANOS] = 500500500, [DZ_E_RESP] = 1 << 19,
-        [DZ_E_MASTER_TX] = 230000000000, [DZ_E_MASTER_RX] = 240000000000, [DZ_E_SLAVE_TX] = 250000000000, [DZ_E_SLAVE_RX] = 260000000000, [DZ_E_ASYMMETRY] = 1 << 20,
+        [DZ_E_T4_SECONDS] = 1700000000, [DZ_E_T4_NANOS] = 500002954, [DZ_E_RESP] = 1 << 19,
+        [DZ_E_MASTER_TX] = 13107200123, [DZ_E_MASTER_RX] = 14417920456, [DZ_E_SLAVE_TX] = 15728640789, [DZ_E_SLAVE_RX] = 14417921012,
+        [DZ_E_ASYMMETRY] = (uint64_t)asymmetry,
+    };
+    __builtin_memcpy(m->exchange, exchange, sizeof exchange);
+}
+
+/* Without asymmetry, and with one of 10^-4. */
+static void even_exchange(struct lent *m) { put_exchange(m, 0); }
+static void uneven_exchange(struct lent *m) { put_exchange(m, 109951163); }
+
+/* Every number near its limit, and such that as many digits as can be are to be worked out. */
+static void farthest_exchange(struct lent *m)
+{
+    const uint64_t limit = ((uint64_t)1 << 47) - 1, latency = ((uint64_t)1 << 50) - 1;
+    const uint64_t exchange[DZ_EXCHANGE_WORDS] = {
+        [DZ_E_T1_SECONDS] = 1700000008, [DZ_E_T1_NANOS] = 123456789, [DZ_E_SYNC] = -limit, [DZ_E_FOLLOW] = -limit,
+        [DZ_E_T2_SECONDS] = 1700000002, [DZ_E_T2_NANOS] = 700000000, [DZ_E_T2_FRACTION] = 65535,
+        [DZ_E_T3_SECONDS] = 1700000000, [DZ_E_T3_NANOS] = 600000000, [DZ_E_T3_FRACTION] = 1,
+        [DZ_E_T4_SECONDS] = 1700000003, [DZ_E_T4_NANOS] = 800000000, [DZ_E_RESP] = -limit,
+        [DZ_E_MASTER_TX] = latency, [DZ_E_MASTER_RX] = 1, [DZ_E_SLAVE_TX] = 0, [DZ_E_SLAVE_RX] = latency,
+        [DZ_E_ASYMMETRY] = ((uint64_t)1 << 39) - 1,
     };
     __builtin_memcpy(m->exchange, exchange, sizeof exchange);
 }
@@ -277,7 +298,8 @@ static dz_answer link_take(struct lent *m, any_call *f, uint64_t i)
 }
 
 enum { OURS, HAND, NOTHING };
-#define BOTH(call) {(any_call *)dz_##call, (any_call *)c_##call}
+#define BESIDE(call, by_hand) {(any_call *)dz_##call, (any_call *)c_##by_hand}
+#define BOTH(call) BESIDE(call, call)
 static const struct row {
     const char *name;
     any_call *calls[2];
@@ -312,7 +334,12 @@ static const struct row {
     {"decide-1", BOTH(decide_all), one_a_port, decide_all, DZ_OK},
     {"decide-16", BOTH(decide_all), sixteen_a_port, decide_all, DZ_OK},
     {"link", BOTH(link_take), slave_present, link_take, DZ_OK},
-    {"measure", BOTH(measure), typical_exchange, measure, DZ_OK},
+    {"measure", BOTH(measure), even_exchange, measure, DZ_OK},
+    {"measure-uneven", BOTH(measure), uneven_exchange, measure, DZ_OK},
+    {"measure-farthest", BOTH(measure), farthest_exchange, measure, DZ_OK},
+    {"shifting", BESIDE(measure, measure_shifting), even_exchange, measure, DZ_OK},
+    {"shifting-uneven", BESIDE(measure, measure_shifting), uneven_exchange, measure, DZ_OK},
+    {"shifting-farthest", BESIDE(measure, measure_shifting), farthest_exchange, measure, DZ_OK},
 };
 
 /* Not looked into, so that its arguments are handed over though it has no use for them. */

@@ -30,6 +30,13 @@ raised-alike y z m n b d e =
     let k = sub-law y z in
     ext (pos m -ℤ pos n) (y -ℤ z) (omega arith)
 
+-- equal differences of natural numbers
+pub same-gap : (k l m n : ℕ) → m + l ≡ k + n → pos k -ℤ pos l ≡ pos m -ℤ pos n
+same-gap k l m n e =
+    let p = sub-law (pos k) (pos l) in
+    let q = sub-law (pos m) (pos n) in
+    ext (pos k -ℤ pos l) (pos m -ℤ pos n) (omega arith)
+
 -- a difference of two numbers that are within their limit and raised by 2^47, raised by 2^48
 pub difference-is : (y z : ℤ) (m n : ℕ) → SpanIs y (At m) → SpanIs z (At n) → pos (m + 2 ^ 48 - n) ≡ (y -ℤ z) +ℤ pos (2 ^ 48)
 difference-is y z m n d e =
@@ -38,9 +45,9 @@ difference-is y z m n d e =
     let l = sub-law y z in
     raised-of (y -ℤ z) (2 ^ 48) (m + 2 ^ 48 - n) (omega arith)
 
--- the share, worked over natural numbers: p is 2^40 + a, q is 2^41 + a, and x is z moved up by 256 q
-module _ (a : ℤ) (z p q x n r : ℕ) (isp : pos p ≡ pos (2 ^ 40) +ℤ a) (isq : q ≡ p + 2 ^ 40) (isx : x + 2 ^ 49 ≡ z + 256 * q) (isn : n ≡ p * x / q)
-    (isr : r + 256 * p ≡ n + 2 ^ 49) where
+-- the share, worked over natural numbers: p is 2^40 + a, q is 2^41 + a, and x is z moved up by so many q, as the answer is by as many p
+module _ (a : ℤ) (z p q x n r qs ps : ℕ) (isp : pos p ≡ pos (2 ^ 40) +ℤ a) (isq : q ≡ p + 2 ^ 40) (alike : p * qs ≡ ps * q) (isx : x + 2 ^ 49 ≡ z + qs)
+    (isn : n ≡ p * x / q) (isr : r + ps ≡ n + 2 ^ 49) where
   pub share-is : pos r ≡ share a (pos z -ℤ pos (2 ^ 49)) +ℤ pos (2 ^ 49)
   unfolding share
   share-is =
@@ -50,15 +57,11 @@ module _ (a : ℤ) (z p q x n r : ℕ) (isp : pos p ≡ pos (2 ^ 40) +ℤ a) (is
       let pp = parts isp in
       let lq = add-law (pos (2 ^ 41)) a in
       let over : pos (2 ^ 41) +ℤ a ≡ pos q = nat-of (pos (2 ^ 41) +ℤ a) q (omega arith) in
-      let moved : up Z + 256 * q ≡ x + dn Z = omega arith in
+      let moved : up Z + qs ≡ x + dn Z = omega arith in
       let ml = mul-law p Z in
       let px = ap (λ (t : ℕ). p * t) moved in
-      let f = floor-moved (pos p *ℤ Z) q (256 * p) (p * x) (omega arith) (omega arith) in
+      let f = floor-moved (pos p *ℤ Z) q ps (p * x) (omega arith) (omega arith) in
       rw (← isp, over) (raised-of (floor (pos p *ℤ Z) (pos q)) (2 ^ 49) r (omega arith))
-
--- a shift that loses nothing
-pub shift8 : (y : ℕ) → y < 2 ^ 56 → y * 256 % 2 ^ 64 ≡ y * 256
-shift8 y h = mod-eq-of-lt (omega arith)
 
 -- the portion is at most the whole
 pub portion-below : {p x q : ℕ} → p ≤ q → p * x / q ≤ x

@@ -2,13 +2,15 @@
 // latencies and an asymmetry in, the delay and the offset out. A number outside a limit of the delay section is
 // refused with 14, and nothing else is. Which messages the numbers come from, and steering a clock by the offset, are
 // left to others. Inside, a signed number is raised by a power of two, so that it is added and compared as an
-// unsigned one; no number is wider than 64 bits.
+// unsigned one; no number is wider than 64 bits. Nothing is multiplied or divided but by shifting, comparing, adding
+// and subtracting: a small line card's processor can do no more.
+use quotient::Part;
 use refusal::Refusal;
 ghost use mathlib.Core.Path.{_≡_};
 ghost use lib.IntN.{pos, _+ℤ_, _-ℤ_};
-ghost use Prim.Native.Nat.{_+_, _*_, _^_, _≤_, _<_};
+ghost use Prim.Native.Nat.{_+_, _-_, _*_, _/_, _%_, _^_, _≤_, _<_};
 ghost use Rattle.signed.specs.Limits.{within, Within};
-ghost use Rattle.delay.specs.Delay.{fine, t1, t2, t3, t4, inNs, delay, inSeconds};
+ghost use Rattle.delay.specs.Delay.{fine, t1, t2, t3, t4, inNs, delay, second, inSeconds};
 ghost use Rattle.delay.specs.Range.{correctionsGood, latencyGood, latenciesGood, stampGood, stampsGood, inputsGood, StampIn, LatenciesIn, InputsIn};
 ghost use Rattle.delay.specs.Answer.{measureOf};
 ghost use Rattle.delay.specs.Inside.{timeOf, Fair, TimeIs, SpanIs, MIs, ShareIs, DelayIs};
@@ -81,6 +83,13 @@ pub enum Measurement {
 
 // One second in nanoseconds times 2^16.
 const SECOND: u64 = 65_536_000_000_000;
+
+// And so many seconds: around 64 lies an offset of less than one, raised by as many.
+const SECONDS_63: u64 = 63 * SECOND;
+
+const SECONDS_64: u64 = 64 * SECOND;
+
+const SECONDS_65: u64 = 65 * SECOND;
 
 // The limits: of corrections and differences, of the asymmetry, of latencies, and of a stamp's seconds.
 const CORRECTION: i64 = 1 << 47;
@@ -211,7 +220,7 @@ fn t1(x: Exchange) -> Time
     let stamp = x.stamps.t1;
     let sync = x.corrections.sync;
     let follow = x.corrections.follow;
-    let part = stamp.nanos as u64 * 65536 + raised(sync) + raised(follow);
+    let part = ((stamp.nanos as u64) << 16) + raised(sync) + raised(follow);
     Time {
         seconds: stamp.seconds,
         part,
@@ -223,7 +232,7 @@ fn slave_time(s: FineStamp) -> Time
     requires { ⌜ StampIn (s .seconds) (s .nanos) ⌝ }
     ensures { λ r. ⌜ TimeIs (pos (fine s)) r ⌝ }
 {
-    let part = s.nanos as u64 * 65536 + s.fraction as u64 + TWO_48;
+    let part = ((s.nanos as u64) << 16) + s.fraction as u64 + TWO_48;
     Time {
         seconds: s.seconds,
         part,
@@ -237,7 +246,7 @@ fn t4(x: Exchange) -> Time
 {
     let stamp = x.stamps.t4;
     let resp = x.corrections.resp;
-    let part = stamp.nanos as u64 * 65536 + TWO_48 + TWO_47 - raised(resp);
+    let part = ((stamp.nanos as u64) << 16) + TWO_48 + TWO_47 - raised(resp);
     Time {
         seconds: stamp.seconds,
         part,
@@ -250,26 +259,47 @@ enum Span {
     Out,
 }
 
-// a - b, raised by 2^47, where it lies strictly between -2^47 and 2^47.
+// How far s whole seconds are ahead of t; nothing where they are not.
+fn ahead(s: u64, t: u64) -> u64
+    requires { ⌜ s ≤ t + 32 ⌝ }
+    ensures { λ r. ⌜ r ≡ (s - t) * second ⌝ }
+{
+    if s <= t {
+        return 0;
+    }
+    quotient::times(s - t, SECOND)
+}
+
+// over - under, raised by 2^47, where it lies strictly between -2^47 and 2^47.
+fn apart(over: u64, under: u64) -> Span
+    requires { ⌜ over < 2 ^ 62 ⌝ }
+    ensures { λ r. ⌜ SpanIs (pos over -ℤ pos under) r ⌝ }
+{
+    let top = over + TWO_47;
+    if top <= under {
+        return Span::Out;
+    }
+    let n = top - under;
+    if n < TWO_48 { Span::At(n) } else { Span::Out }
+}
+
+// a - b, raised by 2^47, where it lies strictly between -2^47 and 2^47. Mostly both are in the same second.
 fn between(a: Time, b: Time) -> Span
     requires { ⌜ Fair a × Fair b ⌝ }
     ensures { λ r. ⌜ SpanIs (pos (timeOf a) -ℤ pos (timeOf b)) r ⌝ }
 {
     let s = a.seconds;
     let t = b.seconds;
+    if s == t {
+        return apart(a.part, b.part);
+    }
     if s + 32 < t {
         return Span::Out;
     }
     if t + 32 < s {
         return Span::Out;
     }
-    let over = (s + 32 - t) * SECOND + a.part + TWO_47;
-    let under = 32 * SECOND + b.part;
-    if over <= under {
-        return Span::Out;
-    }
-    let n = over - under;
-    if n < TWO_48 { Span::At(n) } else { Span::Out }
+    apart(ahead(s, t) + a.part, ahead(t, s) + b.part)
 }
 
 // t4 - t1.
@@ -299,10 +329,10 @@ fn two_way(x: Exchange) -> Span
         return Span::Out;
     }
     let there = outer(x);
-    let back = inner(x);
     let Span::At(u) = there else {
         return Span::Out;
     };
+    let back = inner(x);
     let Span::At(v) = back else {
         return Span::Out;
     };
@@ -332,19 +362,22 @@ fn one_way(l: Latencies) -> ScaledPs
 pub fn in_ns(sum: ScaledPs) -> ScaledNs
     ensures { λ r. ⌜ r .0 ≡ inNs (sum .0) ⌝ }
 {
-    let n = sum.0 / 1000;
+    let n = quotient::thousandth(sum.0);
     ScaledNs(n as i64)
 }
 
-// floor((2^40 + a) z / (2^41 + a)). Both z and the answer are raised by 2^49.
+// floor((2^40 + a) z / (2^41 + a)). Both z and the answer are raised by 2^49; a negative z is moved up by 256 times the
+// denominator, and the answer down by as many numerators.
 fn share(a: Asymmetry, z: u64) -> u64
     requires { ⌜ Within 39 (a .0) × (2 ^ 47 ≤ z) × (z < 7 * 2 ^ 47) ⌝ }
     ensures { λ r. ⌜ ShareIs (a .0) z r ⌝ }
 {
     let p = numerator(a);
+    if TWO_49 <= z {
+        return quotient::portion(p, z - TWO_49) + TWO_49;
+    }
     let q = p + TWO_40;
-    let x = z + (q << 8) - TWO_49;
-    let n = quotient::portion(p, x, 50, q);
+    let n = quotient::portion(p, z + (q << 8) - TWO_49);
     n + TWO_49 - (p << 8)
 }
 
@@ -370,16 +403,40 @@ fn lowered(delay: u64) -> ScaledNs
     ScaledNs(n)
 }
 
+// Whole seconds and a rest of what was raised by 64 seconds. Offsets of less than a second, either way, lie around 64, and there comparisons
+// tell.
+fn split(parts: u64) -> Part
+    requires { ⌜ parts < 128 * second ⌝ }
+    ensures { λ r. ⌜ (r .whole ≡ parts / second) × (r .rest ≡ parts % second) ⌝ }
+{
+    if parts < SECONDS_63 {
+        return quotient::divided(parts, SECOND, 7);
+    }
+    if parts < SECONDS_64 {
+        return Part {
+            whole: 63,
+            rest: parts - SECONDS_63,
+        };
+    }
+    if parts < SECONDS_65 {
+        return Part {
+            whole: 64,
+            rest: parts - SECONDS_64,
+        };
+    }
+    quotient::divided(parts, SECOND, 7)
+}
+
 // t2 - t1 - delay, in whole seconds and a rest. The times are raised alike, the delay by 2^49.
 fn offset_of(t2: Time, t1: Time, delay: u64) -> Offset
     requires { ⌜ Fair t2 × Fair t1 × (delay < 2 ^ 51) ⌝ }
     ensures { λ r. ⌜ r ≡ inSeconds (pos (timeOf t2) -ℤ pos (timeOf t1) -ℤ (pos delay -ℤ pos (2 ^ 49))) ⌝ }
 {
-    let parts = t2.part + 64 * SECOND + TWO_49 - t1.part - delay;
-    let seconds = signed::difference(t2.seconds + parts / SECOND, t1.seconds + 64);
+    let parts = split(t2.part + SECONDS_64 + TWO_49 - t1.part - delay);
+    let seconds = signed::difference(t2.seconds + parts.whole, t1.seconds + 64);
     Offset {
         seconds,
-        rest: parts % SECOND,
+        rest: parts.rest,
     }
 }
 

@@ -1,11 +1,12 @@
--- `share` meets its contract: moved up by 256 q, the number is a natural one, and its portion is 256 p too high.
+-- `share` meets its contract: where z is negative, moved up by 256 q it is a natural number, and its portion is 256 p too high.
 use mathlib.Core.Path.{_≡_, refl}
 use Prim.Native.Nat.{ℕ, _+_, _-_, _*_, _%_, _^_, _<_}
 use native.Mathlib.Omega.{arith}
 use lib.IntN.{pos}
+use Rattle.quotient.proofs.Laws.{shifted}
 use Rattle.signed.proofs.Parts.{add-law, parts}
 use Rattle.signed.proofs.Ranges.{within-parts}
-use Rattle.delay.proofs.Laws.{shift8, portion-below, share-is}
+use Rattle.delay.proofs.Laws.{portion-below, share-is}
 use borrow.Author.Needs.{needs}
 use Rattle.delay.proofs.share.Statement.{statement}
 use Rattle.delay.proofs.share.Tie as tie
@@ -29,51 +30,84 @@ module _ (c : tie.After-numerator) where
       omega (arith, add-law (pos (2 ^ 40)) a)
 
   q-shifted : (p + 2 ^ 40) * 256 % 2 ^ 64 ≡ (p + 2 ^ 40) * 256
-  q-shifted = let h = high in shift8 (p + 2 ^ 40) (omega arith)
+  q-shifted = let h = high in shifted (p + 2 ^ 40) 256 (omega arith)
 
   p-shifted : p * 256 % 2 ^ 64 ≡ p * 256
-  p-shifted = let h = high in shift8 p (omega arith)
+  p-shifted = let h = high in shifted p 256 (omega arith)
 
+-- the portion of a natural z
 module _ (c : tie.After-portion) where
-  abbrev x : ℕ
-  x = c .before .before .args .z + (p (c .before) + 2 ^ 40) * 256 % 2 ^ 64 - 2 ^ 49
+  abbrev z : ℕ
+  z = c .before .before .before .args .z
 
   top : c .portion .result < 2 ^ 50
   top =
-      let s = q-shifted (c .before) in
-      let h = high (c .before) in
-      let n = portion-below {p = p (c .before)} {x = x} {q = p (c .before) + 2 ^ 40} (omega arith) in
+      let n = portion-below {p = p (c .before .before)} {x = z - 2 ^ 49} {q = p (c .before .before) + 2 ^ 40} (omega arith) in
       let e = c .portion .ensures in
       omega arith
 
-add-q : tie.Need-add-q
-add-q c = let h = high c in omega arith
+-- the portion of a z that was moved up
+module _ (c : tie.After-portion2) where
+  abbrev moved : ℕ
+  moved = c .before .before .before .args .z + (p (c .before .before) + 2 ^ 40) * 256 % 2 ^ 64 - 2 ^ 49
 
-add-x : tie.Need-add-x
-add-x c = let h = high c in let s = q-shifted c in omega arith
-
-sub-x : tie.Need-sub-x
-sub-x c = let l = low c in let s = q-shifted c in omega arith
+  moved-top : c .portion2 .result < 2 ^ 50
+  moved-top =
+      let s = q-shifted (c .before .before) in
+      let h = high (c .before .before) in
+      let n = portion-below {p = p (c .before .before)} {x = moved} {q = p (c .before .before) + 2 ^ 40} (omega arith) in
+      let e = c .portion2 .ensures in
+      omega arith
 
 portion-requires : tie.Need-portion-requires
-portion-requires c κs = let l = low c in let h = high c in let s = q-shifted c in omega arith
+portion-requires c κs = let l = low (c .before) in let h = high (c .before) in (l, h, omega arith)
 
 add-result : tie.Need-add-result
 add-result c = let t = top c in omega arith
 
-sub-result : tie.Need-sub-result
-sub-result c = let h = high (c .before) in let s = p-shifted (c .before) in omega arith
-
 returns : tie.Need-returns
 returns c =
-    let s = q-shifted (c .before) in
-    let t = p-shifted (c .before) in
+    let b = c .before .before in
+    let t = top c in
+    record {
+      is = share-is (b .before .args .a .0) (z c) (p b) (p b + 2 ^ 40) (z c - 2 ^ 49) (c .portion .result) _ 0 0 (b .numerator .ensures) refl (omega arith)
+          (omega arith) (c .portion .ensures) (omega arith);
+      top = omega arith;
+    }
+
+add-q : tie.Need-add-q
+add-q c = let h = high (c .before) in omega arith
+
+add-portion : tie.Need-add-portion
+add-portion c = let h = high (c .before) in let s = q-shifted (c .before) in omega arith
+
+sub-portion : tie.Need-sub-portion
+sub-portion c = let l = low (c .before) in let s = q-shifted (c .before) in omega arith
+
+portion-requires-2 : tie.Need-portion-requires-2
+portion-requires-2 c κs =
     let l = low (c .before) in
     let h = high (c .before) in
-    let k = top c in
+    let s = q-shifted (c .before) in
+    (l, h, omega arith)
+
+add-result-2 : tie.Need-add-result-2
+add-result-2 c = let t = moved-top c in omega arith
+
+sub-result : tie.Need-sub-result
+sub-result c = let h = high (c .before .before) in let s = p-shifted (c .before .before) in omega arith
+
+returns-2 : tie.Need-returns-2
+returns-2 c =
+    let b = c .before .before in
+    let s = q-shifted b in
+    let t = p-shifted b in
+    let l = low b in
+    let h = high b in
+    let k = moved-top c in
     record {
-      is = share-is (c .before .before .args .a .0) (c .before .before .args .z) (p (c .before)) (p (c .before) + 2 ^ 40) (x c) (c .portion .result) _
-          (c .before .numerator .ensures) refl (omega arith) (c .portion .ensures) (omega arith);
+      is = share-is (b .before .args .a .0) (b .before .args .z) (p b) (p b + 2 ^ 40) (moved c) (c .portion2 .result) _ (256 * (p b + 2 ^ 40)) (256 * p b)
+          (b .numerator .ensures) refl (omega arith) (omega arith) (c .portion2 .ensures) (omega arith);
       top = omega arith;
     }
 
@@ -82,10 +116,13 @@ share-spec =
     tie.close
     (tie.spec
     (λ c κs. search needs)
-    add-q
-    add-x
-    sub-x
     portion-requires
     add-result
+    returns
+    add-q
+    add-portion
+    sub-portion
+    portion-requires-2
+    add-result-2
     sub-result
-    returns)
+    returns-2)

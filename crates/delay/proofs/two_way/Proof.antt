@@ -23,16 +23,16 @@ module _ (c : tie.After-known-told2) where
   x = c .before .before .before .before .before .before .before .before .before .before .args .x
 
   abbrev u : ℕ
-  u = c .before .before .before .before .there .given .0 .0
+  u = c .before .before .before .before .before .there .given .0 .0
 
   abbrev v : ℕ
   v = c .before .back .given .0 .0
 
   there : SpanIs (t4 x -ℤ t1 x) (At u)
-  there = subst (SpanIs (t4 x -ℤ t1 x)) (c .before .before .before .before .there .given .1) (c .before .before .before .before .before .before .before .outer .ensures)
+  there = subst (SpanIs (t4 x -ℤ t1 x)) (c .before .before .before .before .before .there .given .1) (c .before .before .before .before .before .before .before .outer .ensures)
 
   back : SpanIs (t3 x -ℤ t2 x) (At v)
-  back = subst (SpanIs (t3 x -ℤ t2 x)) (c .before .back .given .1) (c .before .before .before .before .before .before .inner .ensures)
+  back = subst (SpanIs (t3 x -ℤ t2 x)) (c .before .back .given .1) (c .before .before .before .inner .ensures)
 
 returns : tie.Need-returns
 returns c = no-inputs (c .before .before .args .x) (sym (c .before .inputs-good .ensures) ∙ not-true _ (c .if1 .taken))
@@ -41,17 +41,17 @@ outer-requires : tie.Need-outer-requires
 outer-requires c κs = inputs c
 
 inner-requires : tie.Need-inner-requires
-inner-requires c κs = inputs (c .before)
+inner-requires c κs = inputs (c .before .before .before .before)
 
 returns-2 : tie.Need-returns-2
 returns-2 c =
-    let x = c .before .before .before .before .before .before .args .x in
-    no-outer x (subst (SpanIs (t4 x -ℤ t1 x)) (c .enum-told .given .1) (c .before .before .before .outer .ensures))
+    let x = c .before .before .before .before .before .args .x in
+    no-outer x (subst (SpanIs (t4 x -ℤ t1 x)) (c .enum-told .given .1) (c .before .before .outer .ensures))
 
 returns-3 : tie.Need-returns-3
 returns-3 c =
     let x = c .before .before .before .before .before .before .before .before .before .args .x in
-    no-inner x (subst (SpanIs (t3 x -ℤ t2 x)) (c .enum-told2 .given .1) (c .before .before .before .before .before .inner .ensures))
+    no-inner x (subst (SpanIs (t3 x -ℤ t2 x)) (c .enum-told2 .given .1) (c .before .before .inner .ensures))
 
 add-m : tie.Need-add-m
 add-m c = let p = raised-is _ (u c) (there c .0) (there c .1) in omega arith
@@ -74,10 +74,10 @@ two-way-spec =
     (λ c κs. search needs)
     returns
     outer-requires
-    inner-requires
     (λ c. search needs)
     (λ c. search needs)
     returns-2
+    inner-requires
     (λ c. search needs)
     (λ c. search needs)
     returns-3
