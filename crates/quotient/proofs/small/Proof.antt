@@ -37,8 +37,8 @@ module _ (n : ℕ) (l : n < 2 ^ 18) where
   up : b * 128 % 2 ^ 64 ≡ b * 128
   up = let w = low in shifted b 128 (over b w)
     where
-    over : (y : ℕ) → 125 * y ≤ n → y * 128 < 2 ^ 64
-    over y w = omega arith
+      over : (y : ℕ) → 125 * y ≤ n → y * 128 < 2 ^ 64
+      over y w = omega arith
 
   abbrev left : ℕ
   left = n + 1 - (b * 128 % 2 ^ 64 - b - b - b)
@@ -52,14 +52,14 @@ module _ (n : ℕ) (l : n < 2 ^ 18) where
   left-few : left ≤ 512
   left-few = few left b high left-is
     where
-    few : (x y : ℕ) → n < 125 * y + 512 → x ≡ n + 1 - 125 * y → x ≤ 512
-    few x y h e = omega arith
+      few : (x y : ℕ) → n < 125 * y + 512 → x ≡ n + 1 - 125 * y → x ≤ 512
+      few x y h e = omega arith
 
   left-up : left * 128 % 2 ^ 64 ≡ left * 128
   left-up = let w = left-few in shifted left 128 (over left w)
     where
-    over : (y : ℕ) → y ≤ 512 → y * 128 < 2 ^ 64
-    over y w = omega arith
+      over : (y : ℕ) → y ≤ 512 → y * 128 < 2 ^ 64
+      over y w = omega arith
 
 sub-left : tie.Need-sub-left
 sub-left c = let u = up (c .args .n) (c .pre) in omega (arith, u)
