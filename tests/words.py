@@ -116,10 +116,10 @@ NUMBERS = [
 
 # The places in a row of words that a definition reads or sets, as it names them from left to right.
 ROWS = [
-    ("ports.portIn", ["DZ_BURST_PORT"]),
-    ("ports.timeIn", ["DZ_BURST_TIME"]),
-    ("ports.octetsIn", ["DZ_BURST_AT", "DZ_BURST_LENGTH"]),
-    ("ports.answered", ["DZ_BURST_ANSWER"]),
+    ("bursts.portIn", ["DZ_BURST_PORT"]),
+    ("bursts.timeIn", ["DZ_BURST_TIME"]),
+    ("bursts.octetsIn", ["DZ_BURST_AT", "DZ_BURST_LENGTH"]),
+    ("bursts.answered", ["DZ_BURST_ANSWER"]),
     ("recording.nextOf", ["DZ_RECORDING_NEXT"]),
     ("recording.lastOf", ["DZ_RECORDING_LAST"]),
     ("recording.endOf", ["DZ_RECORDING_END"]),
@@ -129,7 +129,7 @@ ROWS = [
 TESTED = [
     ("link.CanSlave", ["DZ_CONFIG_SLAVE", "DZ_CONFIG_BOTH"]),
     ("link.CanMaster", ["DZ_CONFIG_MASTER", "DZ_CONFIG_BOTH"]),
-    ("ports.isMany", ["DZ_BURST_MOST"]),
+    ("bursts.isMany", ["DZ_BURST_MOST"]),
     ("block.blockOctets", ["DZ_BLOCK_OCTETS"]),
     ("block.longest", ["DZ_TRACE_LONGEST"]),
 ]

@@ -1,6 +1,5 @@
-pub mod TestLaws
+pub mod SumLaws
 pub mod Made
-pub mod Walked
 pub mod Check
 pub mod Witnesses
 mod Determined

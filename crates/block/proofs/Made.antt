@@ -3,21 +3,16 @@
 use Prim.Native.Nat.{ℕ, zero, suc, _+_, _-_, _*_, _/_, _%_, _^_, _<_, _≤_}
 use mathlib.Core.Path.{_≡_, refl, sym, ap, _∙_}
 use mathlib.Core.List.{List, [], _∷_, _++_, append-assoc}
-use mathlib.Core.Bool.{true, _&&_}
 use native.Mathlib.Omega.{arith}
 use native.Mathlib.Nat.{add-assoc, add-zero}
-use lib.Dec.{eqb, leb}
 use lib.ListN.{length, take, drop, getD, replicate, length-append, length-replicate, replicate-append-replicate}
 use lib.Seq.{take-append-seam, drop-append-add, drop-append-seam, drop-at, drop-drop, getD-drop}
-use borrow.Author.Tests.{eq-eqb, le-leb}
-use Rattle.refusal.specs.Limits.{isPort}
 use Rattle.octets.specs.Be.{be, octetsOf}
 use Rattle.octets.proofs.Laws.{Octets, be-octets, be-drop}
 use Rattle.stores.specs.Stores.{over}
 use Rattle.block.specs.Layout.{blockOctets, recordsAt, headOctets, Entry, numberOf, firstTimeOf, countOf, timeAt, portAt, lengthAt, messageAt, entryAt, endAt, entriesFrom, entriesOf}
 use Rattle.block.specs.Check.{checkFor}
-use Rattle.block.specs.Tests.{allZero, laidFrom, isLaid}
-use Rattle.block.specs.Making.{entryOctets, sizeOf, openedOf, addedTo, sealed, entriesOctets, sizesOf, firstOf, openBlock, blockOf, EntryFits, OnPort, All}
+use Rattle.block.specs.Making.{entryOctets, sizeOf, openedOf, addedTo, sealed, entriesOctets, sizesOf, firstOf, openBlock, blockOf, EntryFits, All}
 
 -- ---- RUNS OF ZEROS
 drop-zeros : (n k : ℕ) → k ≤ n → drop k (replicate {A = ℕ} n 0) ≡ replicate (n - k) 0
@@ -26,11 +21,6 @@ drop-zeros n k h =
     ap (λ (m : ℕ). drop k (replicate {A = ℕ} m 0)) (sym e)
     ∙ ap (drop k) (sym (replicate-append-replicate {A = ℕ} k (n - k) 0))
     ∙ drop-at (replicate k 0) (replicate (n - k) 0) k (length-replicate {A = ℕ} k 0)
-
-zeros : (n : ℕ) → allZero (replicate n 0) ≡ true
-unfolding allZero
-zeros zero = refl
-zeros (suc n) = zeros n
 
 -- ---- NUMBERS
 -- the number of w octets at k is the one that was put there
@@ -131,10 +121,10 @@ module _ (s : List ℕ) (k : ℕ) (e : Entry) (rest : List ℕ) (here : drop k s
   length-read : lengthAt s k ≡ length (e .message)
   length-read = number-at 2 s (k + 9) (length (e .message)) (e .message ++ rest) (sym (drop-drop 9 k s) ∙ ap (drop 9) here) size
 
-  end-read : endAt s k ≡ k + sizeOf e
+  pub end-read : endAt s k ≡ k + sizeOf e
   end-read = ap (λ (n : ℕ). k + (headOctets + n)) length-read
 
-  port-read : portAt s k ≡ e .port
+  pub port-read : portAt s k ≡ e .port
   port-read = sym (getD-drop k s 8 0) ∙ ap (λ (l : List ℕ). getD l 8 0) here
 
   time-read : e .time < 18446744073709551616 → timeAt s k ≡ e .time
@@ -149,14 +139,14 @@ module _ (s : List ℕ) (k : ℕ) (e : Entry) (rest : List ℕ) (here : drop k s
   entry-read : EntryFits e → entryAt s k ≡ e
   entry-read f = λ i. record { time = time-read (f .time) i; port = port-read i; message = message-read i }
 
-  then : drop (endAt s k) s ≡ rest
+  pub then : drop (endAt s k) s ≡ rest
   then =
       ap (λ (n : ℕ). drop n s) (end-read ∙ sym (add-assoc k headOctets (length (e .message))))
       ∙ sym (drop-drop (length (e .message)) (k + headOctets) s)
       ∙ ap (drop (length (e .message))) message-here
       ∙ drop-append-seam (e .message) rest
 
--- several, one behind the other: read they are the same, and where zeros follow to the end of the block they are laid as they must be
+-- several, one behind the other: read they are the same
 module _ (s : List ℕ) (rest : List ℕ) where
   entries-read : (es : List Entry) (k : ℕ) → drop k s ≡ entriesOctets es rest → sizesOf es < 65536 → All EntryFits es → entriesFrom (length es) s k ≡ es
   unfolding entriesFrom entriesOctets sizesOf
@@ -166,21 +156,8 @@ module _ (s : List ℕ) (rest : List ℕ) where
       let r = entriesOctets es rest in
       λ i. entry-read s k e r here l (fits .0) i ∷ entries-read es (endAt s k) (then s k e r here l) (omega arith) (fits .1) i
 
-  entries-laid : allZero rest ≡ true → (es : List Entry) (k : ℕ) → drop k s ≡ entriesOctets es rest → k + sizesOf es ≤ blockOctets → All OnPort es
-      → laidFrom (length es) s k ≡ true
-  unfolding laidFrom entriesOctets sizesOf
-  entries-laid z [] k here size ports = ap allZero here ∙ z
-  entries-laid z (e ∷ es) k here size ports =
-      let l : length (e .message) < 65536 = omega arith in
-      let r = entriesOctets es rest in
-      let f : endAt s k ≡ k + sizeOf e = end-read s k e r here l in
-      let inside : leb (endAt s k) blockOctets ≡ true = le-leb (endAt s k) blockOctets (omega arith) in
-      let port : isPort (portAt s k) ≡ true = ap isPort (port-read s k e r here l) ∙ ports .0 in
-      let more : laidFrom (length es) s (endAt s k) ≡ true = entries-laid z es (endAt s k) (then s k e r here l) (omega arith) (ports .1) in
-      λ i. inside i && (port i && more i)
-
 -- the first one's time
-first-read : (s rest : List ℕ) (es : List Entry) (k : ℕ) → drop k s ≡ entriesOctets es rest → sizesOf es < 65536 → All EntryFits es → 0 < length es
+pub first-read : (s rest : List ℕ) (es : List Entry) (k : ℕ) → drop k s ≡ entriesOctets es rest → sizesOf es < 65536 → All EntryFits es → 0 < length es
     → (timeAt s k ≡ firstOf es) × (firstOf es < 18446744073709551616)
 unfolding entriesOctets sizesOf
 first-read s rest [] k here size fits some = absurd (omega arith)
@@ -216,7 +193,7 @@ entries-octets (e ∷ es) rest fits o =
 -- ---- A BLOCK
 -- closed: the check changes its first two octets alone
 module _ (n : ℕ) (es : List Entry) (size : sizesOf es ≤ 496) where
-  abbrev zeros-of : List ℕ
+  abbrev pub zeros-of : List ℕ
   zeros-of = replicate (496 - sizesOf es) 0
 
   pub open-length : length (openBlock n es) ≡ blockOctets
@@ -234,11 +211,11 @@ module _ (n : ℕ) (es : List Entry) (size : sizesOf es ≤ 496) where
   unfolding sealed
   block-count = number-at 2 (blockOf n es) 14 (length es) _ refl (omega (arith, sizes-count es))
 
-  block-first : firstOf es < 18446744073709551616 → firstTimeOf (blockOf n es) ≡ firstOf es
+  pub block-first : firstOf es < 18446744073709551616 → firstTimeOf (blockOf n es) ≡ firstOf es
   unfolding sealed
   block-first h = number-at 8 (blockOf n es) 6 (firstOf es) _ refl h
 
-  behind-head : drop recordsAt (blockOf n es) ≡ entriesOctets es zeros-of
+  pub behind-head : drop recordsAt (blockOf n es) ≡ entriesOctets es zeros-of
   unfolding sealed
   behind-head = refl
 
@@ -259,17 +236,3 @@ module _ (n : ℕ) (es : List Entry) (size : sizesOf es ≤ 496) where
         octets-of 2 (checkFor (openBlock n es)) (octetsOf 4 n t)
         (octets-of 4 n t
         (octets-of 8 (firstOf es) c (octets-of 2 (length es) r (entries-octets es zeros-of fits (zeros-octets (496 - sizesOf es))))))
-
-    -- and its layout is right
-    pub block-laid : 0 < length es → All OnPort es → isLaid (blockOf n es) ≡ true
-    unfolding isLaid
-    block-laid some ports =
-        let s = blockOf n es in
-        let t = first-read s zeros-of es recordsAt behind-head (omega arith) fits some in
-        let whole : eqb (length s) blockOctets ≡ true = eq-eqb _ _ block-length in
-        let held : leb 1 (countOf s) ≡ true = ap (leb 1) block-count ∙ le-leb 1 (length es) some in
-        let time : eqb (firstTimeOf s) (timeAt s recordsAt) ≡ true = eq-eqb _ _ (block-first (t .1) ∙ sym (t .0)) in
-        let laid : laidFrom (countOf s) s recordsAt ≡ true =
-        ap (λ (c : ℕ). laidFrom c s recordsAt) block-count
-        ∙ entries-laid s zeros-of (zeros (496 - sizesOf es)) es recordsAt behind-head (omega arith) ports in
-        λ i. whole i && (held i && (time i && laid i))

@@ -4,9 +4,9 @@ use mathlib.Core.List.{List}
 use lib.ListN.{getD}
 use Rattle.tlv.specs.declared.wr.LinkMessage.{LinkMessage}
 use Rattle.tlv.specs.Numbers.{linkNumber}
-use Rattle.message.specs.Parts.{linkOf}
-use Rattle.message.specs.declared.parts.LinkRead.{LinkRead}
-use Rattle.message.specs.declared.parts.LinkRead.the-variants.{Message, Absent, Refused}
+use Rattle.contents.specs.Parts.{linkOf}
+use Rattle.contents.specs.declared.parts.LinkRead.{LinkRead}
+use Rattle.contents.specs.declared.parts.LinkRead.the-variants.{Message, Absent, Refused}
 use Rattle.message.specs.declared.fields.PortIdentity.{PortIdentity}
 use Rattle.message.specs.declared.fields.Header.{Header}
 use Rattle.writer.specs.Writing.{bufferOf}

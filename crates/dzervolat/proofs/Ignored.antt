@@ -9,17 +9,18 @@ use denote.Triple.Clauses.{AtExit}
 use denote.Ref.{now}
 use Rattle.refusal.specs.Refusal.{codeOf}
 use Rattle.message.specs.Reading.{readOf}
-use Rattle.message.specs.Parts.{tailIn, dataIn, lookupOf, suffixOf, linkOf}
-use Rattle.message.specs.Tlvs.{nextIn}
+use Rattle.contents.specs.Parts.{tailIn, dataIn, lookupOf, suffixOf, linkOf}
+use Rattle.contents.specs.Tlvs.{nextIn}
 use Rattle.message.specs.Ignored.{Alike}
-use Rattle.message.proofs.Ignored.{read-same, tail-in-same, data-same, lookup-same, walk-same, suffix-same, link-same}
+use Rattle.message.proofs.Ignored.{read-same}
+use Rattle.contents.proofs.Ignored.{tail-in-same, data-same, lookup-same, walk-same, suffix-same, link-same}
 use Rattle.origin.specs.Origin.{originCheck, originIn}
 use Rattle.origin.proofs.Ignored.{origin-check-same, origin-same}
 use Rattle.senders.specs.Port.{outcomeOf}
 use Rattle.ports.specs.Intake.{planAt, stateAfter}
-use Rattle.ports.specs.Burst.{burstCheck, burstWords, burstRows, AlikeIn}
+use Rattle.bursts.specs.Burst.{burstCheck, burstWords, burstRows, AlikeIn}
 use Rattle.ports.proofs.Ignored.{plan-same}
-use Rattle.ports.proofs.Bursts.{burst-same}
+use Rattle.bursts.proofs.Bursts.{burst-same}
 use Rattle.words.specs.Words.{portOf}
 use Rattle.message_words.specs.Answers.{readCode, readWords, tailWords, tlvCode, tlvWords, walkedCode, walkedWords, suffixCode, suffixWords, linkCode, linkWords, originWords}
 use Rattle.dzervolat.specs.Settings.{settings}

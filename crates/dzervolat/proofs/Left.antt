@@ -14,14 +14,14 @@ use Rattle.refusal.specs.declared.Outcome.{Outcome}
 use Rattle.refusal.specs.declared.Outcome.the-variants as outcome
 use Rattle.message.specs.declared.reading.Reading.{Reading}
 use Rattle.message.specs.declared.reading.Reading.the-variants as reading
-use Rattle.message.specs.declared.parts.TlvRead.{TlvRead}
-use Rattle.message.specs.declared.parts.TlvRead.the-variants as lookup
-use Rattle.message.specs.declared.tlvs.Walked.{Walked}
-use Rattle.message.specs.declared.tlvs.Walked.the-variants as walked
-use Rattle.message.specs.declared.parts.SuffixRead.{SuffixRead}
-use Rattle.message.specs.declared.parts.SuffixRead.the-variants as flags
-use Rattle.message.specs.declared.parts.LinkRead.{LinkRead}
-use Rattle.message.specs.declared.parts.LinkRead.the-variants as carried
+use Rattle.contents.specs.declared.parts.TlvRead.{TlvRead}
+use Rattle.contents.specs.declared.parts.TlvRead.the-variants as lookup
+use Rattle.contents.specs.declared.tlvs.Walked.{Walked}
+use Rattle.contents.specs.declared.tlvs.Walked.the-variants as walked
+use Rattle.contents.specs.declared.parts.SuffixRead.{SuffixRead}
+use Rattle.contents.specs.declared.parts.SuffixRead.the-variants as flags
+use Rattle.contents.specs.declared.parts.LinkRead.{LinkRead}
+use Rattle.contents.specs.declared.parts.LinkRead.the-variants as carried
 use Rattle.message.specs.declared.fields.Message.{Message}
 use Rattle.message.specs.Reading.{by}
 use Rattle.writer.specs.declared.writing.Written.{Written}
@@ -45,7 +45,7 @@ use Rattle.ports.specs.declared.asking.Looked.the-variants as looked
 use Rattle.ports.specs.declared.intake.Settings.{Settings}
 use Rattle.ports.specs.Intake.{stateAfter}
 use Rattle.ports.specs.History.{run}
-use Rattle.ports.specs.Burst.{callsOf, answered, isMany, burstCheck, burstWords, burstRows}
+use Rattle.bursts.specs.Burst.{callsOf, answered, isMany, burstCheck, burstWords, burstRows}
 use Rattle.ports.specs.Interval.{intervalSet, intervalAfter}
 use Rattle.ports.proofs.Follows.{set-refusal-leaves}
 use Rattle.election.specs.declared.Leader.{Leader}

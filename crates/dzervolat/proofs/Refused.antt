@@ -11,8 +11,8 @@ use borrow.Fn.Kinds.{Dens, resT, endedOf}
 use denote.Triple.Clauses.{AtExit}
 use denote.Ref.{now}
 use Rattle.message.specs.Reading.{readOf}
-use Rattle.message.specs.Parts.{tailIn, dataIn, lookupOf, suffixOf, linkOf}
-use Rattle.message.specs.Tlvs.{nextIn}
+use Rattle.contents.specs.Parts.{tailIn, dataIn, lookupOf, suffixOf, linkOf}
+use Rattle.contents.specs.Tlvs.{nextIn}
 use Rattle.origin.specs.Origin.{originCheck, originIn}
 use Rattle.ports.specs.Asking.{candidateOn, bestOn, statusOf, lookedAt}
 use Rattle.ports.specs.Intake.{planAt}

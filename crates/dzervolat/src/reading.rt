@@ -3,8 +3,8 @@ ghost use mathlib.Core.Path.{_≡_};
 ghost use lib.ListN.{length};
 ghost use Rattle.refusal.specs.Refusal.{codeOf};
 ghost use Rattle.message.specs.Reading.{readOf};
-ghost use Rattle.message.specs.Parts.{tailIn, dataIn, lookupOf, suffixOf, linkOf};
-ghost use Rattle.message.specs.Tlvs.{nextIn};
+ghost use Rattle.contents.specs.Parts.{tailIn, dataIn, lookupOf, suffixOf, linkOf};
+ghost use Rattle.contents.specs.Tlvs.{nextIn};
 ghost use Rattle.origin.specs.Origin.{originCheck, originIn};
 ghost use Rattle.message_words.specs.Answers.{readCode, readWords, tailWords, tlvCode, tlvWords, walkedCode, walkedWords, suffixCode, suffixWords, linkCode, linkWords, originWords};
 use refusal::Outcome;
@@ -21,7 +21,7 @@ pub extern "C" fn dz_read(
     ensures words { λ _. ⌜ now (message .exit) ≡ readWords (readOf magic (now (octets .entry))) (now (message .entry)) ⌝ }
     ensures rest { λ _. ⌜ now (tail .exit) ≡ tailWords (readOf magic (now (octets .entry))) (length (tailIn magic (now (octets .entry)))) (now (tail .entry)) ⌝ }
 {
-    let b = message::sound::sound_bounds(octets, magic);
+    let b = contents::sound::sound_bounds(octets, magic);
     let size = b.size;
     let length = b.length;
     if size == 0 {
@@ -38,8 +38,8 @@ pub extern "C" fn dz_lookup(octets: &[u8], kind: u16, magic: u16, found: &mut [u
     ensures answer { λ r. ⌜ r ≡ tlvCode (lookupOf magic kind (now (octets .entry))) ⌝ }
     ensures words { λ _. ⌜ now (found .exit) ≡ tlvWords (lookupOf magic kind (now (octets .entry))) (length (dataIn magic kind (now (octets .entry)))) (now (found .entry)) ⌝ }
 {
-    let x = message::parts::looked_up(octets, kind, magic);
-    let length = message::parts::data_length(octets, x);
+    let x = contents::parts::looked_up(octets, kind, magic);
+    let length = contents::parts::data_length(octets, x);
     message_words::answers::put_tlv(found, x, length)
 }
 
@@ -50,7 +50,7 @@ pub extern "C" fn dz_walk(octets: &[u8], from: usize, magic: u16, found: &mut [u
     ensures answer { λ r. ⌜ r ≡ walkedCode (nextIn magic from (now (octets .entry))) ⌝ }
     ensures words { λ _. ⌜ now (found .exit) ≡ walkedWords (nextIn magic from (now (octets .entry))) (now (found .entry)) ⌝ }
 {
-    message_words::answers::put_walked(found, message::tlvs::next_tlv(octets, from, magic))
+    message_words::answers::put_walked(found, contents::tlvs::next_tlv(octets, from, magic))
 }
 
 // The suffix of an Announce: 1 and wrFlags, or zeros.
@@ -59,7 +59,7 @@ pub extern "C" fn dz_suffix(octets: &[u8], magic: u16, found: &mut [u64; 2]) -> 
     ensures answer { λ r. ⌜ r ≡ suffixCode (suffixOf magic (now (octets .entry))) ⌝ }
     ensures words { λ _. ⌜ now (found .exit) ≡ suffixWords (suffixOf magic (now (octets .entry))) (now (found .entry)) ⌝ }
 {
-    message_words::answers::put_suffix(found, message::parts::suffix(octets, magic))
+    message_words::answers::put_suffix(found, contents::parts::suffix(octets, magic))
 }
 
 // The link message of a Signaling: 1 and its six words, or zeros.
@@ -68,7 +68,7 @@ pub extern "C" fn dz_link_message(octets: &[u8], magic: u16, found: &mut [u64; 7
     ensures answer { λ r. ⌜ r ≡ linkCode (linkOf magic (now (octets .entry))) ⌝ }
     ensures words { λ _. ⌜ now (found .exit) ≡ linkWords (linkOf magic (now (octets .entry))) (now (found .entry)) ⌝ }
 {
-    message_words::answers::put_link(found, message::parts::link_message(octets, magic))
+    message_words::answers::put_link(found, contents::parts::link_message(octets, magic))
 }
 
 // The origin time of a Sync, from itself or from its Follow_Up: seconds and nanoseconds.

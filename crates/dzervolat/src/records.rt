@@ -2,7 +2,7 @@
 ghost use mathlib.Core.Path.{_≡_};
 ghost use Rattle.refusal.specs.Refusal.{codeOf};
 ghost use Rattle.ports.specs.Asking.{candidateOn, bestOn, statusOf, lookedAt};
-ghost use Rattle.ports.specs.Burst.{burstCheck, burstWords, burstRows};
+ghost use Rattle.bursts.specs.Burst.{burstCheck, burstWords, burstRows};
 ghost use Rattle.ports.specs.Intake.{planAt, stateAfter};
 ghost use Rattle.ports.specs.When.{takeNumber};
 ghost use Rattle.ports.specs.Interval.{intervalSet, intervalAfter};
@@ -31,7 +31,7 @@ pub extern "C" fn dz_take(
         clock,
         magic,
     };
-    ports::intake::answer(ports, port, t, octets, set)
+    bursts::answer(ports, port, t, octets, set)
 }
 
 // Takes a burst, message by message, and writes the answer of each beside it.
@@ -39,7 +39,7 @@ pub extern "C" fn dz_take(
 pub extern "C" fn dz_take_burst(
     ports: &mut [u64; ports::WORDS],
     octets: &[u8],
-    burst: &mut [[u64; ports::burst::ROW]],
+    burst: &mut [[u64; bursts::ROW]],
     domain: u8,
     clock: u64,
     magic: u16,
@@ -53,7 +53,7 @@ pub extern "C" fn dz_take_burst(
         clock,
         magic,
     };
-    refusal::code(ports::burst::take_burst(ports, octets, burst, set))
+    refusal::code(bursts::take_burst(ports, octets, burst, set))
 }
 
 // The candidate in a slot of a port at time `t`: 1 and its eleven words, or zeros.

@@ -2,7 +2,7 @@
 // zeroed they are fresh.
 ghost use mathlib.Core.Path.{_≡_};
 ghost use Rattle.refusal.specs.Refusal.{codeOf};
-ghost use Rattle.block.specs.Walking.{nextRecord};
+ghost use Rattle.judging.specs.Walking.{nextRecord};
 ghost use Rattle.recording.specs.Recording.{entryOf, recordedOf, openAfter, wordsAfter, outAfter, isOpen, finished};
 ghost use Rattle.playback.specs.Playback.{readerOf, blockCheck, wordsAfterBlock, readerAfterBlock, replayOf, wordsAfterReplay};
 ghost use Rattle.trace_words.specs.Answers.{recordedCode, recordedWords, finishedWords, replayedCode, replayedWords, nextWords};
@@ -59,7 +59,7 @@ pub extern "C" fn dz_trace_walk(
     ensures answer { λ r. ⌜ r ≡ 0 ⌝ }
     ensures words { λ _. ⌜ now (found .exit) ≡ nextWords (nextRecord (now (octets .entry)) from) ⌝ }
 {
-    let x = block::walking::record_from(octets, from);
+    let x = judging::walking::record_from(octets, from);
     *found = trace_words::next(x);
     0
 }

@@ -6,6 +6,8 @@ ghost use mathlib.Core.Path.{_≡_};
 ghost use mathlib.Core.List.{[]};
 ghost use Prim.Native.Nat.{_+_, _≤_, _<_};
 ghost use lib.ListN.{length};
+ghost use mir.Syntax.{w16};
+ghost use mir.Val.{ofZ};
 ghost use Rattle.stores.specs.Stores.{over};
 ghost use Rattle.layout.specs.Layout.{kindOf, controlOf, sizeOf, identityOctets, stampOctets, leadOctets, closeOctets, announceOctets, headerOctets, firstOctets, moreOctets, bodyOctets};
 ghost use Rattle.layout.specs.Put.{startOctets, offsetOctets, grandmasterOctets};
@@ -108,12 +110,23 @@ pub fn put_close(out: &mut [u8], h: Header, control: u8)
     stores::one(out, 33, interval);
 }
 
+// The two's complement of x.
+fn bits16(x: i16) -> u16
+    ensures { λ r. ⌜ r ≡ ofZ w16 x ⌝ }
+{
+    if x < 0 {
+        0xffff - ((-1 - x) as u16)
+    } else {
+        x as u16
+    }
+}
+
 // Octets 44 to 49 of an Announce.
 fn put_offset(out: &mut [u8], a: Announce)
     requires { ⌜ 64 ≤ length (now out) ⌝ }
     ensures { λ _. ⌜ now (out .exit) ≡ over (now (out .entry)) 44 (offsetOctets a) ⌝ }
 {
-    let utc = octets::bits16(a.utc);
+    let utc = bits16(a.utc);
     stores::two(out, 44, utc as u64);
     stores::one(out, 46, RESERVED);
     stores::one(out, 47, a.priority1);

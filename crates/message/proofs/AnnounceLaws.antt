@@ -1,11 +1,10 @@
 -- Octets that are an Announce as far as version, type and lengths go, and what the checks say of them.
 use Prim.Native.Nat.{ℕ, _-_, _<_, _≤_}
-use mathlib.Core.Path.{_≡_, refl, sym, ap, _∙_}
+use mathlib.Core.Path.{_≡_, refl, ap}
 use mathlib.Core.List.{List}
 use mathlib.Core.Bool.{Bool, true, false}
 use native.Mathlib.Omega.{arith}
-use borrow.Author.Tests.{le-ltb, ltb-false, le-leb, lt-leb, eq-eqb, ne-eqb, eqb-true, eqb-false, not-false}
-use lib.Dec.{eqb}
+use borrow.Author.Tests.{le-ltb, ltb-false, le-leb, lt-leb, eq-eqb, ne-eqb, eqb-true, not-false}
 use lib.ListN.{length, take, drop}
 use Rattle.octets.specs.Be.{be}
 use Rattle.refusal.specs.Choice.{refuse}
@@ -16,7 +15,7 @@ use Rattle.tlv.specs.Faults.{faultOf}
 use Rattle.tlv.specs.declared.walk.Fault.the-variants.{Sound}
 use Rattle.message.specs.Fields.{typeOf, versionOf, lengthOf, fixedSize, tailOf}
 use Rattle.message.specs.Reading.{badStamp, faultCheck, checkOf}
-use Rattle.message.specs.Parts.{announceLength, refusalOf, announcedOf}
+use Rattle.message.specs.Announced.{announceLength, refusalOf, announcedOf}
 use Rattle.message.specs.declared.announce.Announced.the-variants as announced
 use Rattle.message.proofs.Laws.{accepted}
 

@@ -4,14 +4,14 @@ use Prim.Native.Nat.{ℕ, _+_, _<_}
 use mathlib.Core.Path.{_≡_, refl, sym, ap, subst, _∙_}
 use mathlib.Core.List.{List}
 use mathlib.Core.Bool.{Bool, true, false, not}
-use mathlib.Core.Logic.{_⊎_, inl, inr, ⊎-elim}
+use mathlib.Core.Logic.{⊎-elim}
 use native.Mathlib.Omega.{arith}
 use borrow.Author.Tests.{lt-ltb, le-ltb, eq-eqb, ne-eqb, ltb-true, ltb-false, eqb-true, eqb-false}
 use lib.Dec.{eqb, ltb}
 use lib.ListN.{length}
 use Rattle.laws.proofs.Bools.{decided}
-use Rattle.refusal.specs.Choice.{pick, refuse}
-use Rattle.refusal.specs.Refusal.{placed, answerOf, codeOf}
+use Rattle.refusal.specs.Choice.{refuse}
+use Rattle.refusal.specs.Refusal.{answerOf, codeOf}
 use Rattle.refusal.proofs.Numbers.{answered}
 use Rattle.refusal.specs.declared.Refusal.{Refusal}
 use Rattle.refusal.specs.declared.Refusal.the-variants.{Short, Version, «Type», Length, Stamp, Tlv, WrBad}
@@ -20,22 +20,14 @@ use Rattle.refusal.specs.declared.Outcome.the-variants.{Done, Refused}
 use Rattle.tlv.specs.Walk.{BreaksAt, FirstTlv, NoTlv}
 use Rattle.tlv.specs.Form.{misfitAt}
 use Rattle.tlv.specs.Faults.{whole, misfit, faultOf}
-use Rattle.tlv.specs.Wr.{suffixIn, linkIn}
-use Rattle.tlv.specs.declared.wr.Suffix.{Suffix}
-use Rattle.tlv.specs.declared.wr.Suffix.the-variants as suffix
-use Rattle.tlv.specs.declared.wr.LinkFound.{LinkFound}
-use Rattle.tlv.specs.declared.wr.LinkFound.the-variants as found
 use Rattle.tlv.proofs.FaultLaws.{lt-eqb}
 use Rattle.tlv.proofs.Reached.{reached-whole, whole-reached, whole-breaks, breaks-is, breaks-whole, first-is, none-absent, one-or-none}
 use Rattle.message.specs.Fields.{typeOf, versionOf, lengthOf, fixedSize, tailOf, messageOf}
 use Rattle.message.specs.Reading.{badStamp, faultCheck, checkOf, by, readOf}
-use Rattle.message.specs.Parts.{firstOfType, lookupOf, suffixAnswer, suffixOf, linkAnswer, linkOf, announcedOf}
+use Rattle.message.specs.Announced.{announcedOf}
 use Rattle.message.specs.When.{HasHeader, IsTwo, IsListed, IsSized, IsLent, IsStamped, IsWhole, When, few, version, unlisted, below, beyond, stamp, tlv, wrbad, sound, TakesWhen, unread, other, taken}
-use Rattle.message.specs.Answers.{readCode, tlvCode, suffixCode, linkCode, announcedCode}
+use Rattle.message.specs.Answers.{readCode, announcedCode}
 use Rattle.message.specs.declared.reading.Reading.the-variants as reading
-use Rattle.message.specs.declared.parts.TlvRead.the-variants as lookup
-use Rattle.message.specs.declared.parts.SuffixRead.the-variants as flags
-use Rattle.message.specs.declared.parts.LinkRead.the-variants as link
 use Rattle.message.specs.declared.announce.Announced.the-variants as announced
 
 -- nothing is refused where the number is 0
@@ -235,7 +227,7 @@ module _ {A : Type 0} (code : A → ℕ) (refused : Refusal → A) (number : (x 
         subst (TakesWhen magic kind s) (sym (when-takes (l .1))) (l .1)
 
 module _ (magic : ℕ) (s : List ℕ) where
-  -- reading, and looking up a TLV
+  -- reading
   read-code : readCode (readOf magic s) ≡ codeOf (checkOf magic s)
   unfolding readOf
   read-code = by-code readCode reading.Refused (λ x. refl) (checkOf magic s) (reading.Whole (messageOf s)) refl
@@ -245,48 +237,6 @@ module _ (magic : ℕ) (s : List ℕ) where
 
   pub when-read : {n : ℕ} → When magic s n → readCode (readOf magic s) ≡ n
   when-read w = read-code ∙ when-told magic s w
-
-  lookup-code : (kind : ℕ) → tlvCode (lookupOf magic kind s) ≡ codeOf (checkOf magic s)
-  unfolding lookupOf
-  lookup-code kind =
-      let p = firstOfType kind (tailOf s) in
-      by-code tlvCode lookup.Refused (λ x. refl) (checkOf magic s) _ (found-zero (ltb p (length (tailOf s))) (fixedSize (typeOf s) + p + 4))
-    where
-      found-zero : (b : Bool) (n : ℕ) → tlvCode (pick b (lookup.Found n) lookup.Absent) ≡ 0
-      found-zero true n = refl
-      found-zero false n = refl
-
-  pub lookup-told : (kind : ℕ) → When magic s (tlvCode (lookupOf magic kind s))
-  lookup-told kind = subst (When magic s) (sym (lookup-code kind)) (told magic s)
-
-  pub when-lookup : (kind : ℕ) {n : ℕ} → When magic s n → tlvCode (lookupOf magic kind s) ≡ n
-  when-lookup kind w = lookup-code kind ∙ when-told magic s w
-
-  -- the suffix: 3 where the message is no Announce
-  suffix-zero : (x : Suffix) → suffixCode (suffixAnswer x) ≡ 0
-  suffix-zero (suffix.Flags n) = refl
-  suffix-zero suffix.Absent = refl
-
-  pub suffix-told : TakesWhen magic 0xB s (suffixCode (suffixOf magic s))
-  unfolding suffixOf
-  suffix-told = takes-told suffixCode flags.Refused (λ x. refl) magic 0xB s _ (suffix-zero (suffixIn magic (tailOf s)))
-
-  pub when-suffix : {n : ℕ} → TakesWhen magic 0xB s n → suffixCode (suffixOf magic s) ≡ n
-  unfolding suffixOf
-  when-suffix w = when-takes suffixCode flags.Refused (λ x. refl) magic 0xB s _ (suffix-zero (suffixIn magic (tailOf s))) w
-
-  -- the link message: 3 where the message is no Signaling
-  link-zero : (x : LinkFound) → linkCode (linkAnswer x) ≡ 0
-  link-zero (found.Message m) = refl
-  link-zero found.Absent = refl
-
-  pub link-told : TakesWhen magic 0xC s (linkCode (linkOf magic s))
-  unfolding linkOf
-  link-told = takes-told linkCode link.Refused (λ x. refl) magic 0xC s _ (link-zero (linkIn magic (tailOf s)))
-
-  pub when-link : {n : ℕ} → TakesWhen magic 0xC s n → linkCode (linkOf magic s) ≡ n
-  unfolding linkOf
-  when-link w = when-takes linkCode link.Refused (λ x. refl) magic 0xC s _ (link-zero (linkIn magic (tailOf s))) w
 
   -- what intake reads: 3 where the message is no Announce
   pub announced-told : TakesWhen magic 0xB s (announcedCode (announcedOf magic s))

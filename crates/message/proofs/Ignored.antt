@@ -19,20 +19,14 @@ use Rattle.refusal.specs.declared.Outcome.{Outcome}
 use Rattle.refusal.specs.declared.Outcome.the-variants.{Done, Refused}
 use Rattle.octets.specs.Be.{be}
 use Rattle.tlv.specs.Faults.{faultOf}
-use Rattle.tlv.specs.Wr.{suffixIn, wrFlagsOf, linkIn}
-use Rattle.tlv.specs.Walk.{dataAt}
+use Rattle.tlv.specs.Wr.{suffixIn, wrFlagsOf}
 use Rattle.message.specs.Fields.{typeOf, versionOf, lengthOf, fixedSize, identityAt, stampOf, headerOf, announceOf, bodyOf, messageOf, tailOf}
 use Rattle.message.specs.Reading.{badStamp, headed, faultCheck, checkOf, by, readOf}
-use Rattle.message.specs.Tlvs.{standing, nextIn}
-use Rattle.message.specs.declared.tlvs.Walked.the-variants as walked
-use Rattle.message.specs.Parts.{firstOfType, tailIn, dataIn, lookupOf, suffixAnswer, suffixOf, announcedOf, linkAnswer, linkOf}
+use Rattle.message.specs.Announced.{announcedOf}
 use Rattle.message.specs.Ignored.{headerIgnored, restIgnored, isIgnored, Reaches, Alike}
 use Rattle.message.specs.declared.fields.Body.{Body}
 use Rattle.message.specs.declared.fields.Body.the-variants as body
 use Rattle.message.specs.declared.reading.Reading.the-variants as reading
-use Rattle.message.specs.declared.parts.TlvRead.the-variants as lookup
-use Rattle.message.specs.declared.parts.SuffixRead.the-variants as flags
-use Rattle.message.specs.declared.parts.LinkRead.the-variants as link
 use Rattle.message.specs.declared.announce.Announced.the-variants as announced
 use Rattle.message.proofs.Laws.{accepted, size-least}
 
@@ -399,49 +393,6 @@ module _ (a b : List ℕ) (s : Alike a b) where
     pub read-same : readOf magic a ≡ readOf magic b
     unfolding readOf
     read-same = by-same reading.Refused (λ e. ap reading.Whole (accepted-message e))
-
-    pub tail-in-same : tailIn magic a ≡ tailIn magic b
-    unfolding tailIn
-    tail-in-same = by-same (λ x. []) accepted-tail
-
-    -- looking up a TLV,
-    pub data-same : (kind : ℕ) → dataIn magic kind a ≡ dataIn magic kind b
-    unfolding dataIn
-    data-same kind = λ i. dataAt (tail-in-same i) (firstOfType kind (tail-in-same i))
-
-    pub lookup-same : (kind : ℕ) → lookupOf magic kind a ≡ lookupOf magic kind b
-    unfolding lookupOf
-    lookup-same kind =
-        by-same lookup.Refused
-        (λ e.
-        let t = accepted-tail e in
-        λ i. pick (ltb (firstOfType kind (t i)) (length (t i))) (lookup.Found (fixedSize (type-same i) + firstOfType kind (t i) + 4)) lookup.Absent)
-
-    -- going through the TLVs,
-    pub walk-same : (from : ℕ) → nextIn magic from a ≡ nextIn magic from b
-    unfolding nextIn
-    walk-same from =
-        λ i. pick (eqb from 0)
-        (by-same walked.Refused (λ e. let t = accepted-tail e in λ j. standing magic (fixedSize (type-same j)) (t j) 0) i)
-        (headed-same walked.Refused (λ listed t. λ j. standing magic (fixedSize (type-same j)) (t j) (from - fixedSize (type-same j))) i)
-
-    -- the suffix,
-    pub suffix-same : suffixOf magic a ≡ suffixOf magic b
-    unfolding suffixOf
-    suffix-same =
-        by-same flags.Refused
-        (λ e.
-        let t = accepted-tail e in
-        λ i. refuse (not (eqb (type-same i) 0xB)) (flags.Refused «Type») (suffixAnswer (suffixIn magic (t i))))
-
-    -- the link message,
-    pub link-same : linkOf magic a ≡ linkOf magic b
-    unfolding linkOf
-    link-same =
-        by-same link.Refused
-        (λ e.
-        let t = accepted-tail e in
-        λ i. refuse (not (eqb (type-same i) 0xC)) (link.Refused «Type») (linkAnswer (linkIn magic (t i))))
 
     -- and reading an Announce with its suffix
     pub announced-same : announcedOf magic a ≡ announcedOf magic b

@@ -1,6 +1,6 @@
 -- What an accepted message says of the octets lent, one of the type that a call takes, and the bounds of the fixed sizes.
 use Prim.Native.Nat.{ℕ, _+_, _-_, _<_, _≤_}
-use mathlib.Core.Path.{_≡_, refl, sym, _∙_}
+use mathlib.Core.Path.{_≡_, refl, sym}
 use mathlib.Core.List.{List, []}
 use mathlib.Core.Bool.{Bool, true, false, not}
 use native.Mathlib.Omega.{arith}
@@ -21,7 +21,7 @@ use Rattle.tlv.specs.declared.walk.Fault.the-variants.{Sound, Broken, Misfit}
 use Rattle.tlv.proofs.FaultLaws.{break-inside, misfit-inside}
 use Rattle.message.specs.Fields.{typeOf, versionOf, lengthOf, fixedSize, tailOf}
 use Rattle.message.specs.Reading.{badStamp, IsPlaced, faultCheck, checkOf, by, takesOf}
-use Rattle.message.specs.Parts.{Bounded}
+use Rattle.message.specs.Reading.{Bounded}
 
 -- `fixedSize`, by its six tests
 abbrev sizeBy : (a b c d e f : Bool) → ℕ

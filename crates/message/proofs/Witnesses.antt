@@ -4,46 +4,35 @@ use Prim.Native.Nat.{ℕ, zero, suc, _+_, _-_, _*_, _/_, _%_}
 use mathlib.Core.Path.{_≡_, refl}
 use mathlib.Core.List.{List, [], _∷_, _++_, map}
 use lib.IntN.{negsuc}
-use lib.ListN.{drop}
 use Rattle.octets.specs.Be.{be}
 use Rattle.refusal.specs.Choice.{refuse}
 use Rattle.refusal.specs.Refusal.{numberOf}
-use Rattle.refusal.specs.declared.Refusal.the-variants.{Tlv, WrBad}
 use Rattle.tlv.specs.Walk.{nextOf, walkBy, walk}
-use Rattle.tlv.specs.Form.{HasForm, dataOctets, numbered, misfitAt, suffixAt, linkAt}
+use Rattle.tlv.specs.Form.{HasForm, dataOctets, numbered, misfitAt}
 use Rattle.tlv.specs.Faults.{faultOf}
-use Rattle.tlv.specs.Wr.{suffixIn, linkMessageAt, linkIn}
-use Rattle.tlv.specs.declared.wr.LinkMessage.the-variants.{SlavePresent, Lock, Locked, Calibrate, Calibrated, ModeOn}
 use Rattle.message.specs.Fields.{fixedSize, identityAt, stampOf, headerOf, announceOf, bodyOf}
 use Rattle.message.specs.Reading.{checkOf, readOf}
-use Rattle.message.specs.Parts.{tailIn, dataIn, lookupOf, suffixOf, linkOf}
-use Rattle.message.specs.Answers.{readCode, walkedCode}
-use Rattle.message.specs.Tlvs.{tlvsOf, standing, nextIn, dataFrom}
-use Rattle.message.specs.declared.tlvs.Walked.{Walked}
-use Rattle.message.specs.declared.tlvs.Walked.the-variants as walked
+use Rattle.message.specs.Answers.{readCode}
 use Rattle.message.specs.declared.fields.Timestamp.{Timestamp}
 use Rattle.message.specs.declared.fields.Header.{Header}
 use Rattle.message.specs.declared.fields.Body.{Body}
 use Rattle.message.specs.declared.fields.Body.the-variants as body
 use Rattle.message.specs.declared.reading.Reading.{Reading}
 use Rattle.message.specs.declared.reading.Reading.the-variants as reading
-use Rattle.message.specs.declared.parts.TlvRead.the-variants as lookup
-use Rattle.message.specs.declared.parts.SuffixRead.the-variants as flags
-use Rattle.message.specs.declared.parts.LinkRead.the-variants as link
 
-abbrev zeros : ℕ → List ℕ → List ℕ
+abbrev pub zeros : ℕ → List ℕ → List ℕ
 zeros zero rest = rest
 zeros (suc n) rest = 0 ∷ zeros n rest
 
 -- a message of zeros with its type, version, messageLength and what follows the fixed part
-abbrev plain : (kind version size fixed : ℕ) → List ℕ → List ℕ
+abbrev pub plain : (kind version size fixed : ℕ) → List ℕ → List ℕ
 plain kind version size fixed tail = kind ∷ version ∷ 0 ∷ size ∷ zeros fixed tail
 
-abbrev suffixTlv : List ℕ
+abbrev pub suffixTlv : List ℕ
 suffixTlv = 0x00 ∷ 0x03 ∷ 0x00 ∷ 0x0A ∷ 0x08 ∷ 0x00 ∷ 0x30 ∷ 0xAB ∷ 0xCD ∷ 0x01 ∷ 0x20 ∷ 0x00 ∷ 0xFF ∷ 0xF7 ∷ []
 
 -- a SLAVE_PRESENT with two octets of data
-abbrev wrongTlv : List ℕ
+abbrev pub wrongTlv : List ℕ
 wrongTlv = 0x00 ∷ 0x03 ∷ 0x00 ∷ 0x0A ∷ 0x08 ∷ 0x00 ∷ 0x30 ∷ 0xAB ∷ 0xCD ∷ 0x01 ∷ 0x10 ∷ 0x00 ∷ 0x00 ∷ 0x00 ∷ []
 
 abbrev calibrateTlv : List ℕ
@@ -171,36 +160,15 @@ lengths = refl
 
 -- ---- White Rabbit's messages
 -- a WR TLV of a number with n octets of data, 0x71, 0x72, ..
-abbrev counting : ℕ → ℕ → List ℕ
+abbrev pub counting : ℕ → ℕ → List ℕ
 counting zero from = []
 counting (suc n) from = from ∷ counting n (suc from)
 
-abbrev wrTlv : ℕ → ℕ → List ℕ
+abbrev pub wrTlv : ℕ → ℕ → List ℕ
 wrTlv number n = 0x00 ∷ 0x03 ∷ 0x00 ∷ (8 + n) ∷ 0x08 ∷ 0x00 ∷ 0x30 ∷ 0xAB ∷ 0xCD ∷ 0x01 ∷ (number / 256) ∷ (number % 256) ∷ counting n 0x71
 
-abbrev signaling : ℕ → ℕ → List ℕ
+abbrev pub signaling : ℕ → ℕ → List ℕ
 signaling number n = plain 0xC 2 (56 + n) 40 (wrTlv number n)
-
--- each number with its N, and what it carries
-pub carries : map (linkOf 0xABCD) (
-    signaling 0x1000 0
-    ∷ signaling 0x1001 0
-    ∷ signaling 0x1002 0
-    ∷ signaling 0x1003 6
-    ∷ signaling 0x1004 16
-    ∷ signaling 0x1005 0
-    ∷ signaling 0x2000 2
-    ∷ [])
-    ≡ link.Message SlavePresent
-    ∷ link.Message Lock
-    ∷ link.Message Locked
-    ∷ link.Message (Calibrate 0x71 0x72 0x73747576)
-    ∷ link.Message (Calibrated 0x7172737475767778 0x797A7B7C7D7E7F80)
-    ∷ link.Message ModeOn
-    ∷ link.Absent
-    ∷ []
-unfolding linkOf linkIn linkAt linkMessageAt checkOf refuse fixedSize be faultOf walk walkBy nextOf misfitAt numbered HasForm dataOctets
-carries = refl
 
 -- 7, at the place of the TLV
 abbrev bad : ℕ
@@ -222,31 +190,9 @@ pub misfits : map (λ (number : ℕ). map (λ (n : ℕ). readCode (readOf 0xABCD
 unfolding readOf checkOf refuse fixedSize be faultOf walk walkBy nextOf misfitAt numbered HasForm dataOctets
 misfits = refl
 
--- a TLV looked up: its data, where they begin, and that there is none
-pub looks-up : dataIn 0xABCD 3 (plain 0xB 2 78 60 suffixTlv) ≡ drop 4 suffixTlv
-unfolding dataIn tailIn checkOf refuse fixedSize be faultOf walk walkBy nextOf misfitAt numbered HasForm dataOctets
-looks-up = refl
-
-pub says-where : lookupOf 0xABCD 3 (plain 0xB 2 78 60 suffixTlv) ≡ lookup.Found 68
-unfolding lookupOf checkOf refuse fixedSize be faultOf walk walkBy nextOf misfitAt numbered HasForm dataOctets
-says-where = refl
-
-pub says-absent : lookupOf 0xABCD 8 (plain 0xB 2 78 60 suffixTlv) ≡ lookup.Absent
-unfolding lookupOf checkOf refuse fixedSize be faultOf walk walkBy nextOf misfitAt numbered HasForm dataOctets
-says-absent = refl
-
--- wrFlags without its reserved bits; none without the suffix, and none under another magic
-pub has-suffix : suffixOf 0xABCD (plain 0xB 2 78 60 suffixTlv) ≡ flags.Flags 7
-unfolding suffixOf suffixIn suffixAt checkOf refuse fixedSize be faultOf walk walkBy nextOf misfitAt numbered HasForm dataOctets
-has-suffix = refl
-
-pub has-no-suffix : suffixOf 0xDEAD (plain 0xB 2 78 60 suffixTlv) ≡ flags.Absent
-unfolding suffixOf suffixIn suffixAt checkOf refuse fixedSize be faultOf walk walkBy nextOf misfitAt numbered HasForm dataOctets
-has-no-suffix = refl
-
 -- ---- places
 -- a TLV of six octets, of a type that nobody knows
-abbrev six : List ℕ
+abbrev pub six : List ℕ
 six = 0x12 ∷ 0x34 ∷ 0x00 ∷ 0x02 ∷ 0x56 ∷ 0x78 ∷ []
 
 -- 6 and 7 with their places, from octet 0 on: a leftover of one, two, three octets, an odd length, one that runs past the end; a wrong size, the first of
@@ -267,42 +213,3 @@ pub places : map (λ (s : List ℕ). readCode (readOf 0xABCD s)) (
     ≡ (6 + 256 * 50) ∷ (6 + 256 * 50) ∷ (6 + 256 * 50) ∷ (6 + 256 * 50) ∷ (6 + 256 * 50) ∷ (7 + 256 * 50) ∷ (7 + 256 * 50) ∷ (6 + 256 * 58) ∷ (6 + 256 * 60) ∷ (7 + 256 * 70) ∷ (6 + 256 * 50) ∷ []
 unfolding readOf checkOf refuse fixedSize be faultOf walk walkBy nextOf misfitAt numbered HasForm dataOctets
 places = refl
-
--- an Announce with three TLVs, of 6, 14 and 4 octets
-abbrev three : List ℕ
-three = plain 0xB 2 88 60 (six ++ (suffixTlv ++ (0x9A ∷ 0xBC ∷ 0x00 ∷ 0x00 ∷ [])))
-
--- their places, types and lengths
-pub three-tlvs : tlvsOf three
-    ≡ record { place = 64; kind = 0x1234; length = 2 } ∷ record { place = 70; kind = 3; length = 10 } ∷ record { place = 84; kind = 0x9ABC; length = 0 } ∷ []
-unfolding fixedSize be walk walkBy nextOf
-three-tlvs = refl
-
-abbrev given : Walked → ℕ
-given (walked.Next x) = x .place
-given walked.End = 0
-given (walked.Refused x) = 1
-
--- at 0 the first; on the places of the three, and from inside the fixed part; nothing at the end and past it
-pub walks : map (λ (from : ℕ). given (nextIn 0xABCD from three)) (0 ∷ 63 ∷ 64 ∷ 70 ∷ 84 ∷ 88 ∷ 1000 ∷ []) ≡ 64 ∷ 64 ∷ 64 ∷ 70 ∷ 84 ∷ 0 ∷ 0 ∷ []
-unfolding nextIn standing checkOf refuse fixedSize be faultOf walk walkBy nextOf misfitAt numbered HasForm dataOctets
-walks = refl
-
--- inside a TLV stands none: its data 0x5678 are no length
-pub walk-astray : nextIn 0xABCD 66 three ≡ walked.Refused (Tlv 66)
-unfolding nextIn standing refuse fixedSize be nextOf
-walk-astray = refl
-
-pub walk-refused : nextIn 0xABCD 0 (plain 0x0 2 64 40 (six ++ wrongTlv)) ≡ walked.Refused (WrBad 50)
-unfolding nextIn standing checkOf refuse fixedSize be faultOf walk walkBy nextOf misfitAt numbered HasForm dataOctets
-walk-refused = refl
-
--- a call that goes on looks at what stands there alone: the first is whole, the second has a wrong size
-pub walk-goes-on : map (λ (from : ℕ). walkedCode (nextIn 0xABCD from (plain 0x0 2 64 40 (six ++ wrongTlv)))) (0 ∷ 44 ∷ 50 ∷ []) ≡ (7 + 256 * 50) ∷ 0 ∷ (7 + 256 * 50) ∷ []
-unfolding nextIn standing checkOf refuse fixedSize be faultOf walk walkBy nextOf misfitAt numbered HasForm dataOctets
-walk-goes-on = refl
-
--- the data of the second
-pub walk-data : dataFrom 0xABCD 70 three ≡ drop 4 suffixTlv
-unfolding dataFrom nextIn standing checkOf refuse fixedSize be faultOf walk walkBy nextOf misfitAt numbered HasForm dataOctets
-walk-data = refl

@@ -3,40 +3,12 @@ use Prim.Native.Nat.{ℕ}
 use Rattle.refusal.specs.Refusal.{answerOf}
 use Rattle.message.specs.declared.reading.Reading.{Reading}
 use Rattle.message.specs.declared.reading.Reading.the-variants as reading
-use Rattle.message.specs.declared.parts.TlvRead.{TlvRead}
-use Rattle.message.specs.declared.parts.TlvRead.the-variants as lookup
-use Rattle.message.specs.declared.tlvs.Walked.{Walked}
-use Rattle.message.specs.declared.tlvs.Walked.the-variants as walked
-use Rattle.message.specs.declared.parts.SuffixRead.{SuffixRead}
-use Rattle.message.specs.declared.parts.SuffixRead.the-variants as flags
-use Rattle.message.specs.declared.parts.LinkRead.{LinkRead}
-use Rattle.message.specs.declared.parts.LinkRead.the-variants as link
 use Rattle.message.specs.declared.announce.Announced.{Announced}
 use Rattle.message.specs.declared.announce.Announced.the-variants as announced
 
 abbrev pub readCode : Reading → ℕ
 readCode (reading.Whole m) = 0
 readCode (reading.Refused x) = answerOf x
-
-abbrev pub tlvCode : TlvRead → ℕ
-tlvCode (lookup.Found at) = 0
-tlvCode lookup.Absent = 0
-tlvCode (lookup.Refused x) = answerOf x
-
-abbrev pub walkedCode : Walked → ℕ
-walkedCode (walked.Next x) = 0
-walkedCode walked.End = 0
-walkedCode (walked.Refused x) = answerOf x
-
-abbrev pub suffixCode : SuffixRead → ℕ
-suffixCode (flags.Flags n) = 0
-suffixCode flags.Absent = 0
-suffixCode (flags.Refused x) = answerOf x
-
-abbrev pub linkCode : LinkRead → ℕ
-linkCode (link.Message m) = 0
-linkCode link.Absent = 0
-linkCode (link.Refused x) = answerOf x
 
 abbrev pub announcedCode : Announced → ℕ
 announcedCode (announced.Whole h) = 0

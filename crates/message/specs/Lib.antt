@@ -1,8 +1,6 @@
 pub mod Fields
 pub mod Reading
-pub mod Parts
-pub mod Tlvs
-pub mod Sound
+pub mod Announced
 pub mod When
 pub mod Answers
 pub mod Ignored

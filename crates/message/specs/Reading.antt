@@ -1,5 +1,5 @@
 -- Reading: the checks in their order, and the message (01, "Numbers that refuse").
-use Prim.Native.Nat.{ℕ, _+_, _<_}
+use Prim.Native.Nat.{ℕ, _+_, _≤_, _<_}
 use mathlib.Core.List.{List}
 use mathlib.Core.Bool.{Bool, not, _&&_}
 use lib.Dec.{eqb, ltb, leb}
@@ -65,3 +65,9 @@ abbrev pub IsPlaced : ℕ → Fault → Type 0
 IsPlaced size fault.Sound = Unit {0}
 IsPlaced size (fault.Broken p) = size + p < 65536
 IsPlaced size (fault.Misfit p) = size + p < 65536
+
+-- the lengths of a message that was accepted
+pub record Bounded (s : List ℕ) : Type 0 where
+  pub header : 34 ≤ length s
+  pub least : fixedSize (typeOf s) ≤ lengthOf s
+  pub lent : lengthOf s ≤ length s

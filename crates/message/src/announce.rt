@@ -1,6 +1,6 @@
 // An Announce as those take it who choose a parent: header, body, and the wrFlags of its suffix.
 ghost use mathlib.Core.Path.{_≡_};
-ghost use Rattle.message.specs.Parts.{announceLength, refusalOf, announcedOf};
+ghost use Rattle.message.specs.Announced.{announceLength, refusalOf, announcedOf};
 use crate::fields::ANNOUNCE;
 use crate::fields::Announce;
 use crate::fields::Header;

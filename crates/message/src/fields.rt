@@ -3,7 +3,7 @@ ghost use mathlib.Core.Path.{_≡_};
 ghost use Prim.Native.Nat.{_+_, _≤_};
 ghost use lib.ListN.{length};
 ghost use Rattle.octets.specs.Be.{be};
-ghost use Rattle.message.specs.Fields.{typeOf, fixedSize, identityAt, stampOf, headerOf, announceOf, bodyOf, messageOf};
+ghost use Rattle.message.specs.Fields.{fixedSize, identityAt, stampOf, headerOf, announceOf};
 
 // A port of a clock, ten octets.
 pub struct PortIdentity {
@@ -88,7 +88,7 @@ pub fn fixed_size(kind: u8) -> usize
     }
 }
 
-fn identity_at(s: &[u8], at: usize) -> PortIdentity
+pub fn identity_at(s: &[u8], at: usize) -> PortIdentity
     requires { ⌜ at + 10 ≤ length (now s) ⌝ }
     ensures { λ r. ⌜ r ≡ identityAt (now (s .entry)) at ⌝ }
 {
@@ -99,7 +99,7 @@ fn identity_at(s: &[u8], at: usize) -> PortIdentity
 }
 
 // The timestamp, its nanoseconds having been read when they were checked.
-fn stamp_with(s: &[u8], nanoseconds: u32) -> Timestamp
+pub fn stamp_with(s: &[u8], nanoseconds: u32) -> Timestamp
     requires { ⌜ 44 ≤ length (now s) ⌝ }
     requires { ⌜ nanoseconds ≡ be 4 (now s) 40 ⌝ }
     ensures { λ r. ⌜ r ≡ stampOf (now (s .entry)) ⌝ }
@@ -108,13 +108,6 @@ fn stamp_with(s: &[u8], nanoseconds: u32) -> Timestamp
         seconds: octets::held::u48_at(s, 34),
         nanoseconds,
     }
-}
-
-fn stamp_of(s: &[u8]) -> Timestamp
-    requires { ⌜ 44 ≤ length (now s) ⌝ }
-    ensures { λ r. ⌜ r ≡ stampOf (now (s .entry)) ⌝ }
-{
-    stamp_with(s, octets::held::u32_at(s, 40))
 }
 
 pub fn header_of(s: &[u8]) -> Header
@@ -149,30 +142,5 @@ pub fn announce_of(s: &[u8], nanoseconds: u32) -> Announce
         grandmaster: octets::held::u64_at(s, 53),
         steps: octets::held::u16_at(s, 61),
         timesource: s[63],
-    }
-}
-
-fn delay_resp_of(s: &[u8]) -> DelayResp
-    requires { ⌜ 54 ≤ length (now s) ⌝ }
-    ensures { λ r. ⌜ r ≡ record { receive = stampOf (now (s .entry)); requester = identityAt (now (s .entry)) 44 } ⌝ }
-{
-    DelayResp {
-        receive: stamp_of(s),
-        requester: identity_at(s, 44),
-    }
-}
-
-pub fn body_of(s: &[u8]) -> Body
-    requires { ⌜ (44 ≤ length (now s)) × (fixedSize (typeOf (now s)) ≤ length (now s)) ⌝ }
-    ensures { λ r. ⌜ r ≡ bodyOf (now (s .entry)) ⌝ }
-{
-    let kind = s[0] % 16;
-    match kind {
-        SYNC => Body::Sync(stamp_of(s)),
-        DELAY_REQ => Body::DelayReq(stamp_of(s)),
-        FOLLOW_UP => Body::FollowUp(stamp_of(s)),
-        DELAY_RESP => Body::DelayResp(delay_resp_of(s)),
-        ANNOUNCE => Body::Announce(announce_of(s, octets::held::u32_at(s, 40))),
-        _ => Body::Signaling(identity_at(s, 34)),
     }
 }

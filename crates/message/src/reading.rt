@@ -1,12 +1,9 @@
-// The checks of reading, and a message read.
+// The checks of reading.
 ghost use mathlib.Core.Path.{_≡_};
 ghost use Prim.Native.Nat.{_+_, _≤_, _<_};
 ghost use lib.ListN.{length};
 ghost use Rattle.tlv.specs.Faults.{faultOf};
-ghost use Rattle.message.specs.Reading.{badStamp, IsPlaced, faultCheck, checkOf, takesOf, readOf};
-use crate::fields::ANNOUNCE;
-use crate::fields::Announce;
-use crate::fields::Header;
+ghost use Rattle.message.specs.Reading.{badStamp, IsPlaced, faultCheck, checkOf, takesOf};
 use crate::fields::Message;
 use crate::fields::SIGNALING;
 use refusal::Outcome;
@@ -103,18 +100,5 @@ pub fn takes(s: &[u8], kind: u8, magic: u16) -> Outcome
                 Outcome::Refused(Refusal::Type)
             }
         }
-    }
-}
-
-// Any octets at all, read.
-pub fn read(s: &[u8], magic: u16) -> Reading
-    ensures { λ r. ⌜ r ≡ readOf magic (now (s .entry)) ⌝ }
-{
-    match check(s, magic) {
-        Outcome::Refused(x) => Reading::Refused(x),
-        Outcome::Done => Reading::Whole(Message {
-            header: crate::fields::header_of(s),
-            body: crate::fields::body_of(s),
-        }),
     }
 }

@@ -15,9 +15,9 @@ use Rattle.refusal.specs.declared.Outcome.the-variants.{Done, Refused}
 use Rattle.layout.specs.Layout.{kindOf, sizeOf}
 use Rattle.message.specs.Fields.{typeOf, fixedSize, bodyOf}
 use Rattle.message.specs.Reading.{checkOf, readOf}
-use Rattle.message.specs.Parts.{tailIn}
-use Rattle.message.specs.Sound.{boundsAt}
-use Rattle.message.specs.declared.sound.Bounds.{Bounds}
+use Rattle.contents.specs.Parts.{tailIn}
+use Rattle.contents.specs.Sound.{boundsAt}
+use Rattle.contents.specs.declared.sound.Bounds.{Bounds}
 use Rattle.message.proofs.Laws.{accepted, bounded, tail-length}
 use Rattle.message_words.specs.Answers.{readCode, readWords, tailWords}
 

@@ -12,9 +12,9 @@ use Rattle.message.specs.declared.fields.Body.{Body}
 use Rattle.message.specs.declared.fields.Body.the-variants as body
 use Rattle.message.specs.declared.fields.Message.{Message}
 use Rattle.message.specs.declared.reading.Reading.the-variants as reading
-use Rattle.message.specs.declared.parts.TlvRead.the-variants as lookup
-use Rattle.message.specs.declared.tlvs.Walked.the-variants as walk
-use Rattle.message.specs.declared.parts.SuffixRead.the-variants as flags
+use Rattle.contents.specs.declared.parts.TlvRead.the-variants as lookup
+use Rattle.contents.specs.declared.tlvs.Walked.the-variants as walk
+use Rattle.contents.specs.declared.parts.SuffixRead.the-variants as flags
 use Rattle.message.specs.Fields.{fixedSize}
 use Rattle.message_words.specs.Words.{messageWords, bodyWords, messageOf, headerOf, bodyOf, announceOf}
 use Rattle.message_words.specs.Answers.{tailWords, tlvWords, walkedWords, suffixWords, originWords, linkMessageWords}

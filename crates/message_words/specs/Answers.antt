@@ -8,18 +8,19 @@ use Rattle.layout.specs.Layout.{sizeOf}
 use Rattle.tlv.specs.Numbers.{SLAVE-PRESENT, LOCK, LOCKED, CALIBRATE, CALIBRATED, WR-MODE-ON}
 use Rattle.tlv.specs.declared.wr.LinkMessage.{LinkMessage}
 use Rattle.tlv.specs.declared.wr.LinkMessage.the-variants.{SlavePresent, Lock, Locked, Calibrate, Calibrated, ModeOn}
-pub use Rattle.message.specs.Answers.{readCode, tlvCode, walkedCode, suffixCode, linkCode}
-use Rattle.message.specs.Tlvs.{beginOf, endOf}
-use Rattle.message.specs.declared.tlvs.Walked.{Walked}
-use Rattle.message.specs.declared.tlvs.Walked.the-variants as walked
+pub use Rattle.message.specs.Answers.{readCode}
+pub use Rattle.contents.specs.Answers.{tlvCode, walkedCode, suffixCode, linkCode}
+use Rattle.contents.specs.Tlvs.{beginOf, endOf}
+use Rattle.contents.specs.declared.tlvs.Walked.{Walked}
+use Rattle.contents.specs.declared.tlvs.Walked.the-variants as walked
 use Rattle.message.specs.declared.reading.Reading.{Reading}
 use Rattle.message.specs.declared.reading.Reading.the-variants as reading
-use Rattle.message.specs.declared.parts.TlvRead.{TlvRead}
-use Rattle.message.specs.declared.parts.TlvRead.the-variants as lookup
-use Rattle.message.specs.declared.parts.SuffixRead.{SuffixRead}
-use Rattle.message.specs.declared.parts.SuffixRead.the-variants as flags
-use Rattle.message.specs.declared.parts.LinkRead.{LinkRead}
-use Rattle.message.specs.declared.parts.LinkRead.the-variants as link
+use Rattle.contents.specs.declared.parts.TlvRead.{TlvRead}
+use Rattle.contents.specs.declared.parts.TlvRead.the-variants as lookup
+use Rattle.contents.specs.declared.parts.SuffixRead.{SuffixRead}
+use Rattle.contents.specs.declared.parts.SuffixRead.the-variants as flags
+use Rattle.contents.specs.declared.parts.LinkRead.{LinkRead}
+use Rattle.contents.specs.declared.parts.LinkRead.the-variants as link
 use Rattle.message_words.specs.Words.{messageWords}
 
 abbrev pub readWords : Reading → List ℕ → List ℕ

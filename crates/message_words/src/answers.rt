@@ -5,10 +5,10 @@ ghost use Prim.Native.Nat.{_≤_};
 ghost use lib.ListN.{length};
 ghost use Rattle.message_words.specs.Answers.{tlvCode, tlvWords, walkedCode, walkedWords, suffixCode, suffixWords, linkMessageWords, linkCode, linkWords};
 ghost use Rattle.message_words.specs.Reading.{stampWords};
-use message::parts::LinkRead;
-use message::parts::SuffixRead;
-use message::parts::TlvRead;
-use message::tlvs::Walked;
+use contents::parts::LinkRead;
+use contents::parts::SuffixRead;
+use contents::parts::TlvRead;
+use contents::tlvs::Walked;
 use tlv::wr::LinkMessage;
 
 // A TLV looked up: 1, where its data begin in the message and how many octets they are, or zeros.

@@ -31,15 +31,6 @@ u48-at-determined κs a x y v w p q = (p ∙ sym q, refl)
 pub u64-at-determined : Fixes its.u64_at.ended its.u64_at.Reads.Post
 u64-at-determined κs a x y v w p q = (p ∙ sym q, refl)
 
-pub i8-at-determined : Fixes its.i8_at.ended its.i8_at.Reads.Post
-i8-at-determined κs a x y v w p q = (p ∙ sym q, refl)
-
-pub i16-at-determined : Fixes its.i16_at.ended its.i16_at.Reads.Post
-i16-at-determined κs a x y v w p q = (p ∙ sym q, refl)
-
-pub i64-at-determined : Fixes its.i64_at.ended its.i64_at.Reads.Post
-i64-at-determined κs a x y v w p q = (p ∙ sym q, refl)
-
 pub signed8-determined : Fixes its.signed8.ended its.signed8.Reads.Post
 signed8-determined κs a x y v w p q = (p ∙ sym q, refl)
 
@@ -52,20 +43,5 @@ signed64-determined κs a x y v w p q = (p ∙ sym q, refl)
 pub bits8-determined : Fixes its.bits8.ended its.bits8.Reads.Post
 bits8-determined κs a x y v w p q = (p ∙ sym q, refl)
 
-pub bits16-determined : Fixes its.bits16.ended its.bits16.Reads.Post
-bits16-determined κs a x y v w p q = (p ∙ sym q, refl)
-
 pub bits64-determined : Fixes its.bits64.ended its.bits64.Reads.Post
 bits64-determined κs a x y v w p q = (p ∙ sym q, refl)
-
-pub two-determined : Fixes its.two.ended its.two.Reads.Post
-two-determined κs a x y v w p q = (p ∙ sym q, refl)
-
-pub four-determined : Fixes its.four.ended its.four.Reads.Post
-four-determined κs a x y v w p q = (p ∙ sym q, refl)
-
-pub six-determined : Fixes its.six.ended its.six.Reads.Post
-six-determined κs a x y v w p q = (p ∙ sym q, refl)
-
-pub eight-determined : Fixes its.eight.ended its.eight.Reads.Post
-eight-determined κs a x y v w p q = (p ∙ sym q, refl)

@@ -1,15 +1,14 @@
-// Big-endian numbers in octets, read at any place of a slice and written out by value.
+// Big-endian numbers in octets, read at any place of a slice.
 //
 // Reading never fails: an octet past the end of the slice counts as 0, and the contracts say so. Where the caller
 // has shown that the octets are there, `held` reads them without looking at the length again.
 // Signed numbers are two's complement.
 ghost use mathlib.Core.Path.{_≡_};
-ghost use mathlib.Core.List.{[]};
 ghost use Prim.Native.Nat.{_+_, _≤_};
 ghost use lib.ListN.{getD};
 ghost use mir.Syntax.{w8, w16, w64};
 ghost use mir.Val.{toZ, ofZ};
-ghost use Rattle.octets.specs.Be.{be, octetsOf};
+ghost use Rattle.octets.specs.Be.{be};
 
 pub mod held;
 
@@ -78,24 +77,6 @@ pub fn u64_at(s: &[u8], at: usize) -> u64
     number(s, at, 8)
 }
 
-pub fn i8_at(s: &[u8], at: usize) -> i8
-    ensures { λ r. ⌜ r ≡ toZ w8 (getD (now (s .entry)) at 0) ⌝ }
-{
-    signed8(octet_at(s, at))
-}
-
-pub fn i16_at(s: &[u8], at: usize) -> i16
-    ensures { λ r. ⌜ r ≡ toZ w16 (be 2 (now (s .entry)) at) ⌝ }
-{
-    signed16(u16_at(s, at))
-}
-
-pub fn i64_at(s: &[u8], at: usize) -> i64
-    ensures { λ r. ⌜ r ≡ toZ w64 (be 8 (now (s .entry)) at) ⌝ }
-{
-    signed64(u64_at(s, at))
-}
-
 // The number whose two's complement is v.
 pub fn signed8(v: u8) -> i8
     ensures { λ r. ⌜ r ≡ toZ w8 v ⌝ }
@@ -138,16 +119,6 @@ pub fn bits8(x: i8) -> u8
     }
 }
 
-pub fn bits16(x: i16) -> u16
-    ensures { λ r. ⌜ r ≡ ofZ w16 x ⌝ }
-{
-    if x < 0 {
-        0xffff - ((-1 - x) as u16)
-    } else {
-        x as u16
-    }
-}
-
 pub fn bits64(x: i64) -> u64
     ensures { λ r. ⌜ r ≡ ofZ w64 x ⌝ }
 {
@@ -156,66 +127,4 @@ pub fn bits64(x: i64) -> u64
     } else {
         x as u64
     }
-}
-
-// The octets of a number, by value.
-pub fn two(v: u16) -> [u8; 2]
-    ensures { λ r. ⌜ r ≡ octetsOf 2 v [] ⌝ }
-{
-    [(v / 256 % 256) as u8, (v % 256) as u8]
-}
-
-pub fn four(v: u32) -> [u8; 4]
-    ensures { λ r. ⌜ r ≡ octetsOf 4 v [] ⌝ }
-{
-    let a = v / 256;
-    let b = a / 256;
-    let c = b / 256;
-    [
-        (c % 256) as u8,
-        (b % 256) as u8,
-        (a % 256) as u8,
-        (v % 256) as u8,
-    ]
-}
-
-// The low 48 bits of v.
-pub fn six(v: u64) -> [u8; 6]
-    ensures { λ r. ⌜ r ≡ octetsOf 6 v [] ⌝ }
-{
-    let a = v / 256;
-    let b = a / 256;
-    let c = b / 256;
-    let d = c / 256;
-    let e = d / 256;
-    [
-        (e % 256) as u8,
-        (d % 256) as u8,
-        (c % 256) as u8,
-        (b % 256) as u8,
-        (a % 256) as u8,
-        (v % 256) as u8,
-    ]
-}
-
-pub fn eight(v: u64) -> [u8; 8]
-    ensures { λ r. ⌜ r ≡ octetsOf 8 v [] ⌝ }
-{
-    let a = v / 256;
-    let b = a / 256;
-    let c = b / 256;
-    let d = c / 256;
-    let e = d / 256;
-    let f = e / 256;
-    let g = f / 256;
-    [
-        (g % 256) as u8,
-        (f % 256) as u8,
-        (e % 256) as u8,
-        (d % 256) as u8,
-        (c % 256) as u8,
-        (b % 256) as u8,
-        (a % 256) as u8,
-        (v % 256) as u8,
-    ]
 }

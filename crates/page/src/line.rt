@@ -4,17 +4,15 @@
 // %3 to %9 and %: at the right end of a column of 3 to 9 and of 10.
 use crate::names;
 use crate::text;
+use libc::STDOUT_FILENO;
 
-// The width that a digit stands for; the octet behind 9 stands for 10.
-fn width(c: u8) -> usize {
-    (c % 16) as usize
-}
-
-// A number as a letter or digit says.
+// A number as a letter or digit says. The low half of a digit is the width; the octet behind 9 stands for 10.
 fn number(c: u8, value: u64) {
     match c {
         b'd' => text::number(value),
-        b'x' => text::clock(value),
+        b'x' => {
+            io::print_hex(STDOUT_FILENO, value, 16);
+        }
         b't' => text::moment(value),
         b'h' => text::two(b"", value),
         b'n' => names::refused(value),
@@ -23,7 +21,7 @@ fn number(c: u8, value: u64) {
         b'c' => names::decision(value),
         b's' => text::nanoseconds(value, 2),
         b'o' => text::nanoseconds(value, 10),
-        _ => text::signed(b"", value, width(c)),
+        _ => text::signed(b"", value, (c % 16) as usize),
     }
 }
 

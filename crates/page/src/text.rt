@@ -15,15 +15,10 @@ pub fn front(s: &[u8], n: usize) -> &[u8] {
     &s[0..k]
 }
 
-// What is left behind the first n octets.
-fn past(s: &[u8], n: usize) -> &[u8] {
-    let k = least(n, s.len());
-    &s[k..]
-}
-
 // The n octets behind the first `at`, or what there is of them.
 pub fn part(s: &[u8], at: usize, n: usize) -> &[u8] {
-    front(past(s, at), n)
+    let k = least(at, s.len());
+    front(&s[k..], n)
 }
 
 // Words, as they stand.
@@ -34,11 +29,6 @@ pub fn say(words: &[u8]) {
 // A number in decimal.
 pub fn number(value: u64) {
     io::print_decimal(STDOUT_FILENO, value);
-}
-
-// A clockIdentity in 16 hexadecimal digits.
-pub fn clock(value: u64) {
-    io::print_hex(STDOUT_FILENO, value, 16);
 }
 
 // How many blanks bring so many digits to the right end of a column; one at least.

@@ -18,15 +18,15 @@ use Rattle.refusal.proofs.Limits.{port-bounds}
 use Rattle.slots.proofs.Laws.{lent}
 use Rattle.words.specs.Words as named
 use Rattle.block.specs.Layout.{entriesFrom, entriesOf, timeAt, portAt, lengthAt, endAt, entryAt}
-use Rattle.block.specs.Tests.{failsCheck, isLaid, isNext, isInOrder, readerAfter, verdictOf}
-use Rattle.block.specs.declared.judging.Reader.{Reader}
-use Rattle.block.specs.declared.judging.Verdict.{Verdict}
-use Rattle.block.specs.declared.judging.Verdict.the-variants as verdict
-use Rattle.block.proofs.judging.Verdict.{the-type}
+use Rattle.judging.specs.Tests.{failsCheck, isLaid, isNext, isInOrder, readerAfter, verdictOf}
+use Rattle.judging.specs.declared.Reader.{Reader}
+use Rattle.judging.specs.declared.Verdict.{Verdict}
+use Rattle.judging.specs.declared.Verdict.the-variants as verdict
+use Rattle.judging.proofs.Verdict.{the-type}
 use Rattle.ports.specs.declared.intake.Settings.{Settings}
 use Rattle.ports.specs.Intake.{planAt, stateAfter}
 use Rattle.ports.specs.History.{after, run}
-use Rattle.ports.proofs.Laws.{port-is}
+use Rattle.bursts.proofs.Named.{port-is}
 use Rattle.playback.specs.declared.Replayed.{Replayed}
 use Rattle.playback.specs.declared.Replayed.the-variants as replayed
 use Rattle.playback.specs.Playback.{callOf, callsOf, isSound, readerOf, readerWords, accepts, blockCheck, wordsAfterBlock, readerAfterBlock, chunks, chunkCount, blocksIn, acceptsAll, readerAfterAll, entriesOfAll}

@@ -13,9 +13,9 @@ use Rattle.refusal.specs.declared.Refusal.the-variants.{Block}
 use Rattle.refusal.specs.declared.Outcome.the-variants.{Refused, Done}
 use Rattle.block.specs.Layout.{entriesOf}
 use Rattle.block.specs.Check.{isChecked}
-use Rattle.block.specs.Tests.{isWhole, failsCheck, isLaid, isNext, isInOrder, readerAfter, verdictOf}
-use Rattle.block.specs.declared.judging.Reader.{Reader}
-use Rattle.block.specs.declared.judging.Verdict.the-variants as verdict
+use Rattle.judging.specs.Tests.{isWhole, failsCheck, isLaid, isNext, isInOrder, readerAfter, verdictOf}
+use Rattle.judging.specs.declared.Reader.{Reader}
+use Rattle.judging.specs.declared.Verdict.the-variants as verdict
 use Rattle.playback.specs.declared.Replayed.{Replayed}
 use Rattle.playback.specs.declared.Replayed.the-variants as replayed
 use Rattle.playback.specs.Playback.{isSound, accepts, blockCheck, acceptsAll, blocksIn, freshReader, isTrace, replayOf}

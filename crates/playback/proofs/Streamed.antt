@@ -6,8 +6,8 @@ use mathlib.Core.Bool.{Bool, true, false, _&&_}
 use Rattle.laws.proofs.Bools.{both}
 use Rattle.refusal.specs.Choice.{pick}
 use Rattle.block.specs.Layout.{Entry, entriesOf}
-use Rattle.block.specs.Tests.{readerAfter}
-use Rattle.block.specs.declared.judging.Reader.{Reader}
+use Rattle.judging.specs.Tests.{readerAfter}
+use Rattle.judging.specs.declared.Reader.{Reader}
 use Rattle.ports.specs.declared.intake.Settings.{Settings}
 use Rattle.ports.specs.History.{run}
 use Rattle.ports.proofs.Follows.{run-append}

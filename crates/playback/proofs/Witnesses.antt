@@ -12,13 +12,13 @@ use Rattle.tlv.specs.Faults.{faultOf}
 use Rattle.tlv.specs.Wr.{suffixIn}
 use Rattle.message.specs.Fields.{fixedSize, headerOf, announceOf, identityAt, stampOf}
 use Rattle.message.specs.Reading.{checkOf}
-use Rattle.message.specs.Parts.{announcedOf}
+use Rattle.message.specs.Announced.{announcedOf}
 use Rattle.senders.specs.Port.{tab, first, planOf}
 use Rattle.slots.specs.Words.{recordOf, wordsOf}
 use Rattle.octets.specs.Be.{be}
 use Rattle.block.specs.Layout.{Entry, entriesFrom}
 use Rattle.block.specs.Check.{sumFrom, isChecked}
-use Rattle.block.specs.Tests.{allZero, laidFrom, isLaid, isInOrder, lastOf, verdictOf}
+use Rattle.judging.specs.Tests.{allZero, laidFrom, isLaid, isInOrder, lastOf, verdictOf}
 use Rattle.block.specs.Making.{sealed, entriesOctets, sizesOf, blockOf}
 use Rattle.ports.specs.declared.intake.Settings.{Settings}
 use Rattle.ports.specs.Intake.{admittedOf, planAt}

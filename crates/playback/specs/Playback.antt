@@ -12,10 +12,10 @@ use Rattle.refusal.specs.declared.Outcome.the-variants.{Refused, Done}
 use Rattle.senders.specs.Port.{tab}
 use Rattle.slots.specs.Words.{portWords}
 use Rattle.block.specs.Layout.{blockOctets, Entry, entriesOf}
-use Rattle.block.specs.Tests.{verdictOf, readerAfter}
-use Rattle.block.specs.declared.judging.Reader.{Reader}
-use Rattle.block.specs.declared.judging.Verdict.{Verdict}
-use Rattle.block.specs.declared.judging.Verdict.the-variants as verdict
+use Rattle.judging.specs.Tests.{verdictOf, readerAfter}
+use Rattle.judging.specs.declared.Reader.{Reader}
+use Rattle.judging.specs.declared.Verdict.{Verdict}
+use Rattle.judging.specs.declared.Verdict.the-variants as verdict
 use Rattle.ports.specs.declared.intake.Settings.{Settings}
 use Rattle.ports.specs.History.{Call, taking, run}
 use Rattle.ports.specs.Words.{allWords}

@@ -8,8 +8,8 @@ use lib.ListN.{length}
 use Rattle.refusal.specs.Refusal.{answerOf}
 use Rattle.block.specs.Layout.{blockOctets, numberOf, entriesOf}
 use Rattle.block.specs.Check.{isChecked}
-use Rattle.block.specs.Tests.{isLaid, isInOrder, readerAfter}
-use Rattle.block.specs.declared.judging.Reader.{Reader}
+use Rattle.judging.specs.Tests.{isLaid, isInOrder, readerAfter}
+use Rattle.judging.specs.declared.Reader.{Reader}
 use Rattle.playback.specs.declared.Replayed.{Replayed}
 use Rattle.playback.specs.declared.Replayed.the-variants as replayed
 use Rattle.playback.specs.Playback.{freshReader, blocksIn}

@@ -9,12 +9,12 @@ ghost use mathlib.Core.Bool.{true};
 ghost use Prim.Native.Nat.{_≤_};
 ghost use lib.ListN.{length, take, drop};
 ghost use Rattle.block.specs.Layout.{blockOctets, entriesOf};
-ghost use Rattle.block.specs.Tests.{isLaid};
+ghost use Rattle.judging.specs.Tests.{isLaid};
 ghost use Rattle.ports.specs.History.{run};
 ghost use Rattle.ports.specs.Words.{allWords};
 ghost use Rattle.playback.specs.Playback.{callsOf, readerOf, blockCheck, wordsAfterBlock, readerAfterBlock, blocksIn, entriesOfAll, isTrace, cleared, replayOf, wordsAfterReplay};
-use block::judging::Reader;
-use block::judging::Verdict;
+use judging::Reader;
+use judging::Verdict;
 use ports::WORDS;
 use ports::intake::Settings;
 use refusal::Outcome;
@@ -38,10 +38,10 @@ fn take_all(words: &mut [u64; WORDS], s: &[u8], set: Settings)
     let mut at: usize = block::RECORDS;
     let mut i: usize = 0;
     while i < n {
-        let t = block::time_at(s, at);
-        let port = block::port_at(s, at);
-        let end = block::end_at(s, at);
-        ports::intake::answer(words, port as u64, t, &s[at + block::HEAD..end], set);
+        let t = judging::time_at(s, at);
+        let port = judging::port_at(s, at);
+        let end = judging::end_at(s, at);
+        bursts::answer(words, port as u64, t, &s[at + block::HEAD..end], set);
         at = end;
         i += 1;
     }
@@ -62,7 +62,7 @@ pub fn replay_block(
         next: reader[0],
         last: reader[1],
     };
-    let v = block::judging::judge(s, read);
+    let v = judging::judge(s, read);
     let Verdict::Sound(after) = v else {
         return Outcome::Refused(Refusal::Block);
     };
@@ -91,7 +91,7 @@ fn judged(trace: &[u8]) -> Replayed
     let mut at: usize = 0;
     while at < trace.len() {
         let s = part(trace, at);
-        let v = block::judging::judge(s, read);
+        let v = judging::judge(s, read);
         let Verdict::Sound(after) = v else {
             return Replayed::Refused(Refusal::Block);
         };

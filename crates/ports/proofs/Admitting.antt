@@ -16,7 +16,7 @@ use Rattle.refusal.specs.declared.Outcome.the-variants as outcome
 use Rattle.message.specs.Fields.{typeOf, headerOf}
 use Rattle.message.specs.Reading.{checkOf, by}
 use Rattle.message.specs.When.{TakesWhen}
-use Rattle.message.specs.Parts.{announcedOf}
+use Rattle.message.specs.Announced.{announcedOf}
 use Rattle.message.specs.Answers.{announcedCode}
 use Rattle.message.specs.declared.announce.Announced.{Announced}
 use Rattle.message.specs.declared.announce.Announced.the-variants as announced

@@ -6,12 +6,6 @@ use Rattle.ports.proofs as its
 pub intake-take-determined : Fixes its.intake.take.ended its.intake.take.Reads.Post
 intake-take-determined κs a x y v w p q = (p .0 ∙ sym (q .0), λ i. ((p .1 ∙ sym (q .1)) i, w .1))
 
-pub intake-answer-determined : Fixes its.intake.answer.ended its.intake.answer.Reads.Post
-intake-answer-determined κs a x y v w p q = (p .0 ∙ sym (q .0), λ i. ((p .1 ∙ sym (q .1)) i, w .1))
-
-pub burst-take-burst-determined : Fixes its.burst.take_burst.ended its.burst.take_burst.Reads.Post
-burst-take-burst-determined κs a x y v w p q = (p .0 ∙ sym (q .0), λ i. ((p .1 .0 ∙ sym (q .1 .0)) i, (tt, ((p .1 .1 ∙ sym (q .1 .1)) i, w .1 .1 .1))))
-
 pub interval-set-interval-determined : Fixes its.interval.set_interval.ended its.interval.set_interval.Reads.Post
 interval-set-interval-determined κs a x y v w p q = (p .0 ∙ sym (q .0), λ i. ((p .1 ∙ sym (q .1)) i, w .1))
 

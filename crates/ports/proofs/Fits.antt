@@ -20,7 +20,7 @@ use Rattle.tlv.specs.Wr.{flagsAt, suffixIn, wrFlagsOf}
 use Rattle.tlv.specs.declared.wr.Suffix.the-variants.{Flags, Absent}
 use Rattle.message.specs.Fields.{typeOf, headerOf, announceOf, identityAt, tailOf}
 use Rattle.message.specs.Reading.{checkOf, by}
-use Rattle.message.specs.Parts.{announcedOf}
+use Rattle.message.specs.Announced.{announcedOf}
 use Rattle.message.specs.declared.announce.Announced.{Announced}
 use Rattle.message.specs.declared.announce.Announced.the-variants as announced
 use Rattle.message.specs.declared.announce.Heard.{Heard}

@@ -17,7 +17,7 @@ use Rattle.rank.specs.declared.Grandmaster.{Grandmaster}
 use Rattle.rank.specs.Ranked.{isPort}
 use Rattle.message.specs.Fields.{typeOf, fixedSize, announceOf}
 use Rattle.message.specs.Reading.{checkOf, by}
-use Rattle.message.specs.Parts.{announcedOf}
+use Rattle.message.specs.Announced.{announcedOf}
 use Rattle.message.specs.declared.announce.Announced.{Announced}
 use Rattle.message.specs.declared.announce.Announced.the-variants as announced
 use Rattle.message.specs.declared.announce.Heard.{Heard}

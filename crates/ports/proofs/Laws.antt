@@ -12,14 +12,14 @@ use lib.Seq.{drop-drop}
 use mir.Syntax.{w8}
 use mir.Val.{toZ, ofZ, SFits}
 use mir.ValLaws.{toZ-pos, toZ-neg}
-use borrow.Author.Tests.{not-true, not-false, leb-true, le-leb, lt-leb, lt-ltb, le-ltb}
+use borrow.Author.Tests.{not-true, not-false, le-leb, lt-leb, lt-ltb, le-ltb}
 pub use Rattle.refusal.proofs.Limits.{port-bounds}
 use Rattle.refusal.specs.Choice.{refuse}
 use Rattle.refusal.specs.declared.Refusal.{Refusal}
 use Rattle.refusal.specs.declared.Refusal.the-variants.{Port, Backward, Field}
 use Rattle.refusal.specs.declared.Outcome.{Outcome}
 use Rattle.refusal.specs.declared.Outcome.the-variants as outcome
-use Rattle.refusal.proofs.Choice.{passed, is-refused}
+use Rattle.refusal.proofs.Choice.{passed}
 use Rattle.rank.specs.declared.Candidate.{Candidate}
 use Rattle.rank.specs.Ranked.{isPort}
 use Rattle.senders.specs.declared.Notice as kept
@@ -37,8 +37,7 @@ use Rattle.ports.specs.Words.{own, with, portAt}
 use Rattle.ports.specs.Intake.{admittedOf, admittedBy, planBy, planAt, stateAfter}
 use Rattle.ports.specs.Asking.{onPort}
 use Rattle.ports.specs.Interval.{isInterval, inRange, intervalOf, setBy, afterBy, intervalSet, intervalAfter}
-use Rattle.message.specs.Parts.{announcedOf}
-use Rattle.words.specs.Words as named
+use Rattle.message.specs.Announced.{announcedOf}
 
 -- the part that is lent is the port's own
 pub lent-own : (ws : List ℕ) (port b : ℕ) → b ≡ 98 * (port - 1) → take (b + 98 - b) (drop b ws) ≡ own ws port
@@ -88,20 +87,6 @@ module _ (set : Settings) (ws : List ℕ) (port t : ℕ) (s : List ℕ) where
             ∙ state-of ws port t (senders.planOf (portAt ws port) t a)
             ∙ ap (stateAfter ws port t) p,
       )
-
--- a word that names a port, and one past them
-pub port-is : (w : ℕ) → w ≤ 18 → named.portOf w ≡ w
-port-is w h = rw (le-leb w 18 h)
-
-no-port : (w : ℕ) → 18 < w → isPort (named.portOf w) ≡ false
-no-port w h = rw (lt-leb w 18 h)
-
-pub take-no-port : (set : Settings) (ws : List ℕ) (w t : ℕ) (s : List ℕ) → 18 < w
-    → (outcome.Refused Port ≡ senders.outcomeOf (planAt set ws (named.portOf w) t s)) × (ws ≡ stateAfter ws (named.portOf w) t (planAt set ws (named.portOf w) t s))
-unfolding admittedOf
-take-no-port set ws w t s h =
-    take-refused set ws (named.portOf w) t s (Refused Port) Port
-    (is-refused (isPort (named.portOf w)) false (sym (no-port w h)) (Refused Port) (admittedBy set (announcedOf (set .magic) s)) refl) refl
 
 -- ---- asking
 -- what is found was refused neither with 8 nor with 11

@@ -1,14 +1,13 @@
 -- Worked inputs, from octets to words, computed. They rule out an intake that does nothing, refuses everything or has one
 -- answer, a port number in our own clock's test, and a window that the sender chooses.
 use mathlib.Core.Path.{_≡_, refl, ap}
-use mathlib.Core.List.{List, [], _∷_, _++_, map}
+use mathlib.Core.List.{List, [], _∷_, map}
 use mathlib.Core.Bool.{true, false}
 use Prim.Native.Nat.{ℕ}
 use lib.IntN.{pos, negsuc}
-use lib.ListN.{getD, set, replicate}
+use lib.ListN.{getD}
 use Rattle.octets.specs.Be.{be}
 use Rattle.refusal.specs.Choice.{refuse}
-use Rattle.refusal.specs.Refusal.{codeOf}
 use Rattle.refusal.specs.declared.Refusal.the-variants.{Short, Port, Domain, Own, Backward, Stale}
 use Rattle.tlv.specs.Walk as walk
 use Rattle.tlv.specs.Form.{HasForm, numbered, misfitAt, dataOctets, suffixAt}
@@ -16,7 +15,7 @@ use Rattle.tlv.specs.Faults.{faultOf}
 use Rattle.tlv.specs.Wr.{suffixIn}
 use Rattle.message.specs.Fields.{fixedSize, headerOf, announceOf, identityAt, stampOf}
 use Rattle.message.specs.Reading.{checkOf}
-use Rattle.message.specs.Parts.{announcedOf}
+use Rattle.message.specs.Announced.{announcedOf}
 use Rattle.rank.specs.Ranked.{blankOf}
 use Rattle.senders.specs.declared.Notice as kept
 use Rattle.senders.specs.declared.Plan.the-variants.{Refuse, Put}
@@ -25,16 +24,14 @@ use Rattle.senders.specs.Port.{tab, first, planOf}
 use Rattle.slots.specs.Words.{recordOf, wordsOf, portOf, wordsAfter}
 use Rattle.ports.specs.declared.intake.Settings.{Settings}
 use Rattle.ports.specs.declared.intake.Admitted.the-variants.{Refused, Notice}
-use Rattle.ports.specs.Intake.{admittedOf, planBy, planAt}
-use Rattle.ports.specs.Words.{allWords}
-use Rattle.ports.specs.Burst.{burstCheck, burstWords, burstRows}
+use Rattle.ports.specs.Intake.{admittedOf, planBy}
 use Rattle.ports.specs.Interval.{isInterval, exponentOf, intervalOf}
 
-abbrev ours : Settings
+abbrev pub ours : Settings
 ours = record { domain = 0; clock = 5; magic = 0xABCD }
 
 -- an Announce of 64 octets: domain, the sender's clock and port, sequenceId; logMessageInterval is 127
-abbrev announce : ℕ → ℕ → ℕ → ℕ → List ℕ
+abbrev pub announce : ℕ → ℕ → ℕ → ℕ → List ℕ
 announce domain clock port sequence =
     0x0B ∷ 0x02 ∷ 0 ∷ 64 ∷ domain ∷ 0 ∷ 0 ∷ 0 ∷ 0 ∷ 0 ∷ 0 ∷ 0 ∷ 0 ∷ 0 ∷ 0 ∷ 0 ∷ 0 ∷ 0 ∷ 0 ∷ 0 ∷ 0 ∷ 0 ∷ 0 ∷ 0 ∷ 0 ∷ 0 ∷ 0 ∷ clock ∷ 0 ∷ port ∷ 0 ∷ sequence ∷ 5 ∷ 127
     ∷ 0 ∷ 0 ∷ 0 ∷ 0 ∷ 0 ∷ 0 ∷ 0 ∷ 0 ∷ 0 ∷ 0 ∷ 0 ∷ 0 ∷ 0 ∷ 0 ∷ 0 ∷ 0 ∷ 0 ∷ 0 ∷ 0 ∷ 0 ∷ 0 ∷ 0 ∷ 0 ∷ 0 ∷ 0 ∷ 0 ∷ 0 ∷ 0 ∷ 0 ∷ 0 ∷ []
@@ -118,53 +115,3 @@ intervals = refl
 
 pub intervals-back : map intervalOf (5 ∷ 6 ∷ 7 ∷ 0 ∷ 1 ∷ 2 ∷ 3 ∷ 4 ∷ []) ≡ negsuc 2 ∷ negsuc 1 ∷ negsuc 0 ∷ pos 0 ∷ pos 1 ∷ pos 2 ∷ pos 3 ∷ pos 4 ∷ []
 intervals-back = refl
-
--- ---- a burst
--- a clock that heard nothing; made one by one, which is computed faster than `fresh`
-abbrev untold : List ℕ
-untold = replicate allWords 0
-
--- an Announce, and behind it one of 66 octets whose last two are no TLV
-abbrev ring : List ℕ
-ring = announce 0 7 1 9 ++ (set (announce 0 8 1 9) 3 66 ++ (0 ∷ 0 ∷ []))
-
--- port, time, where it begins, how many octets: what each is answered stands in the next table
-abbrev heap : List (List ℕ)
-heap =
-    (2 ∷ 5 ∷ 0 ∷ 64 ∷ 901 ∷ [])  -- new: taken
-    ∷ (2 ∷ 6 ∷ 0 ∷ 65 ∷ 902 ∷ [])  -- the same again, one octet more lent: 12
-    ∷ (3 ∷ 4 ∷ 0 ∷ 66 ∷ 903 ∷ [])  -- the same on another port, whose time is its own: taken
-    ∷ (258 ∷ 7 ∷ 0 ∷ 67 ∷ 904 ∷ [])  -- 258 is no port, and not port 2: 8
-    ∷ (2 ∷ 4 ∷ 0 ∷ 68 ∷ 905 ∷ [])  -- before port 2's last accepted time, which this burst set: 11
-    ∷ (2 ∷ 8 ∷ 64 ∷ 69 ∷ 906 ∷ [])  -- 66 octets are there: 6, the two octets that are left over begin at 64
-    ∷ (2 ∷ 9 ∷ 97 ∷ 70 ∷ 907 ∷ [])  -- 33 octets are there: 1
-    ∷ (2 ∷ 10 ∷ 131 ∷ 71 ∷ 908 ∷ [])  -- begins past the end: 1
-    ∷ (1 ∷ 11 ∷ 1 ∷ 64 ∷ 909 ∷ [])  -- begins one octet late: 2
-    ∷ []
-
-abbrev heapAnswered : List (List ℕ)
-heapAnswered =
-    (2 ∷ 5 ∷ 0 ∷ 64 ∷ 0 ∷ [])
-    ∷ (2 ∷ 6 ∷ 0 ∷ 65 ∷ 12 ∷ [])
-    ∷ (3 ∷ 4 ∷ 0 ∷ 66 ∷ 0 ∷ [])
-    ∷ (258 ∷ 7 ∷ 0 ∷ 67 ∷ 8 ∷ [])
-    ∷ (2 ∷ 4 ∷ 0 ∷ 68 ∷ 11 ∷ [])
-    ∷ (2 ∷ 8 ∷ 64 ∷ 69 ∷ 16390 ∷ [])
-    ∷ (2 ∷ 9 ∷ 97 ∷ 70 ∷ 1 ∷ [])
-    ∷ (2 ∷ 10 ∷ 131 ∷ 71 ∷ 1 ∷ [])
-    ∷ (1 ∷ 11 ∷ 1 ∷ 64 ∷ 2 ∷ [])
-    ∷ []
-
-pub burst-answered : burstRows ours ring untold heap ≡ heapAnswered
-unfolding planAt planOf first tab recordOf wordsOf admittedOf refuse announcedOf checkOf faultOf fixedSize be headerOf announceOf identityAt stampOf suffixIn walk.nextOf walk.walk walk.walkBy
-burst-answered = refl
-
--- the words after it: the last accepted times of ports 1 to 3, and the sender in slot 0 of port 2
-pub burst-kept : map (λ i. getD (burstWords ours ring untold heap) i 0) (0 ∷ 98 ∷ 100 ∷ 106 ∷ 196 ∷ 198 ∷ []) ≡ 0 ∷ 5 ∷ 7 ∷ 0 ∷ 4 ∷ 7 ∷ []
-unfolding planAt planOf first tab recordOf wordsOf admittedOf refuse announcedOf checkOf faultOf fixedSize be headerOf announceOf identityAt stampOf suffixIn walk.nextOf walk.walk walk.walkBy
-burst-kept = refl
-
--- none, 288 and 289 messages
-pub burst-sizes : map (λ n. codeOf (burstCheck (replicate n []))) (0 ∷ 288 ∷ 289 ∷ []) ≡ 0 ∷ 0 ∷ 17 ∷ []
-unfolding refuse
-burst-sizes = refl

@@ -6,6 +6,5 @@ pub mod Interval
 pub mod Asking
 pub mod Places
 pub mod History
-pub mod Burst
 pub mod Staying
 pub mod Accepted

@@ -9,9 +9,7 @@ ghost use Rattle.senders.specs.Port.{planOf, outcomeOf};
 ghost use Rattle.slots.specs.Words.{portWords, gradeWord, wordsAfter};
 ghost use Rattle.slots.specs.Words as held;
 ghost use Rattle.ports.specs.Intake.{grandmasterOf, noticeOf, judgedOf, admittedOf, planAt, stateAfter};
-ghost use Rattle.ports.specs.When.{takeNumber};
 ghost use Rattle.ports.specs.Words.{allWords};
-ghost use Rattle.words.specs.Words.{portOf};
 use crate::WORDS;
 use message::announce::Announced;
 use message::announce::Heard;
@@ -136,16 +134,4 @@ pub fn take(words: &mut [u64; WORDS], port: u8, t: u64, s: &[u8], set: Settings)
     ensures { λ r. ⌜ (r ≡ outcomeOf (planAt set (now (words .entry)) port t (now (s .entry)))) × (now (words .exit) ≡ stateAfter (now (words .entry)) port t (planAt set (now (words .entry)) port t (now (s .entry)))) ⌝ }
 {
     take_in(&mut words[..], port, t, s, set)
-}
-
-// The same on the port that a word names, with the answer's number: what a host calls for one message, and a burst for each of its own. It is
-// compiled once and called by both, so the answer is a number, which comes back in a register. A word past the last port is refused as it is.
-pub fn answer(words: &mut [u64; WORDS], port: u64, t: u64, s: &[u8], set: Settings) -> u64
-    ensures answer { λ r. ⌜ r ≡ takeNumber set (now (words .entry)) (portOf port) t (now (s .entry)) ⌝ }
-    ensures words { λ _. ⌜ now (words .exit) ≡ stateAfter (now (words .entry)) (portOf port) t (planAt set (now (words .entry)) (portOf port) t (now (s .entry))) ⌝ }
-{
-    if (refusal::PORTS as u64) < port {
-        return refusal::code(Outcome::Refused(Refusal::Port));
-    }
-    refusal::code(take(words, port as u8, t, s, set))
 }

@@ -10,7 +10,6 @@ ghost use Rattle.slots.specs.Words.{portWords};
 ghost use Rattle.ports.specs.Words.{allWords};
 
 pub mod asking;
-pub mod burst;
 pub mod intake;
 pub mod interval;
 pub mod places;

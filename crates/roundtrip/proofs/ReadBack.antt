@@ -19,7 +19,7 @@ use Rattle.tlv.specs.Faults.{faultOf}
 use Rattle.tlv.specs.declared.walk.Fault.{Fault}
 use Rattle.tlv.specs.declared.walk.Fault.the-variants.{Sound, Broken, Misfit}
 use Rattle.message.specs.Reading.{checkOf, by, readOf}
-use Rattle.message.specs.Parts.{tailIn}
+use Rattle.contents.specs.Parts.{tailIn}
 use Rattle.message.specs.declared.fields.Timestamp.{Timestamp}
 use Rattle.message.specs.declared.fields.Body.{Body}
 use Rattle.message.specs.declared.fields.Body.the-variants as body

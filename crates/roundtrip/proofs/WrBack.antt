@@ -26,9 +26,9 @@ use Rattle.tlv.specs.declared.wr.LinkMessage.the-variants.{SlavePresent, Lock, 
 use Rattle.tlv.specs.declared.wr.Suffix.the-variants as suffix
 use Rattle.tlv.specs.declared.wr.LinkFound.the-variants as found
 use Rattle.message.specs.Fields.{fixedSize}
-use Rattle.message.specs.Parts.{suffixOf, linkOf}
-use Rattle.message.specs.declared.parts.SuffixRead.the-variants as flags
-use Rattle.message.specs.declared.parts.LinkRead.the-variants as link
+use Rattle.contents.specs.Parts.{suffixOf, linkOf}
+use Rattle.contents.specs.declared.parts.SuffixRead.the-variants as flags
+use Rattle.contents.specs.declared.parts.LinkRead.the-variants as link
 use Rattle.message.specs.declared.fields.PortIdentity.{PortIdentity}
 use Rattle.message.specs.declared.fields.Header.{Header}
 use Rattle.message.specs.declared.fields.Announce.{Announce}

@@ -8,10 +8,10 @@ ghost use lib.ListN.{length};
 ghost use Rattle.message.specs.Reading.{by};
 ghost use Rattle.writer.specs.Writing.{writeCheck, bufferOf};
 ghost use Rattle.wr_tlvs.specs.Built.{linkOctets, signaling};
+use contents::parts::LinkRead;
 use message::fields::Header;
 use message::fields::Message;
 use message::fields::PortIdentity;
-use message::parts::LinkRead;
 use message::reading::Reading;
 use tlv::wr::LinkMessage;
 use writer::writing::Written;
@@ -23,7 +23,7 @@ pub fn again(out: &mut [u8], m: Message, tail: &[u8], magic: u16) -> Reading
 {
     match writer::writing::write(out, m, tail, magic) {
         Written::Refused(x) => Reading::Refused(x),
-        Written::Octets(_) => message::reading::read(&out[..], magic),
+        Written::Octets(_) => contents::whole::read(&out[..], magic),
     }
 }
 
@@ -40,6 +40,6 @@ pub fn link_again(
 {
     match wr_tlvs::write_link(out, header, target, x, magic) {
         Written::Refused(y) => LinkRead::Refused(y),
-        Written::Octets(_) => message::parts::link_message(&out[..], magic),
+        Written::Octets(_) => contents::parts::link_message(&out[..], magic),
     }
 }

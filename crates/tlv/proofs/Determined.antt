@@ -1,8 +1,7 @@
 -- Any two results that a contract of this crate allows are equal, over the contract as it is read of the source: a
 -- contract that said less would not prove these.
 use mathlib.Core.Path.{_∙_, refl, sym}
-use denote.Ref.{now}
-use Rattle.laws.proofs.Fixes.{Fixes, FixesPart}
+use Rattle.laws.proofs.Fixes.{Fixes}
 use Rattle.tlv.proofs as its
 
 pub form-wr-form-determined : Fixes its.form.wr_form.ended its.form.wr_form.Reads.Post
@@ -20,26 +19,14 @@ form-misfits-determined κs a x y v w p q = (p ∙ sym q, refl)
 pub form-is-suffix-determined : Fixes its.form.is_suffix.ended its.form.is_suffix.Reads.Post
 form-is-suffix-determined κs a x y v w p q = (p ∙ sym q, refl)
 
-pub form-is-link-determined : Fixes its.form.is_link.ended its.form.is_link.Reads.Post
-form-is-link-determined κs a x y v w p q = (p ∙ sym q, refl)
-
 pub walk-step-determined : Fixes its.walk.step.ended its.walk.step.Reads.Post
 walk-step-determined κs a x y v w p q = (p ∙ sym q, refl)
 
-pub walk-place-determined : Fixes its.walk.place.ended its.walk.place.Reads.Post
-walk-place-determined κs a x y v w p q = (p ∙ sym q, refl)
-
-pub walk-data-of-determined : FixesPart its.walk.data_of.ended its.walk.data_of.Reads.Post (λ κs. now)
-walk-data-of-determined κs a x y v w p q = (p ∙ sym q, refl)
+pub walk-later-determined : Fixes its.walk.later.ended its.walk.later.Reads.Post
+walk-later-determined κs a x y v w p q = (p ∙ sym q, refl)
 
 pub walk-first-fault-determined : Fixes its.walk.first_fault.ended its.walk.first_fault.Reads.Post
 walk-first-fault-determined κs a x y v w p q = (p ∙ sym q, refl)
-
-pub walk-is-sound-determined : Fixes its.walk.is_sound.ended its.walk.is_sound.Reads.Post
-walk-is-sound-determined κs a x y v w p q = (p ∙ sym q, refl)
-
-pub walk-sound-place-determined : Fixes its.walk.sound_place.ended its.walk.sound_place.Reads.Post
-walk-sound-place-determined κs a x y v w p q = (p ∙ sym q, refl)
 
 pub walk-sound-suffix-determined : Fixes its.walk.sound_suffix.ended its.walk.sound_suffix.Reads.Post
 walk-sound-suffix-determined κs a x y v w p q = (p ∙ sym q, refl)
@@ -47,11 +34,5 @@ walk-sound-suffix-determined κs a x y v w p q = (p ∙ sym q, refl)
 pub wr-suffix-at-determined : Fixes its.wr.suffix_at.ended its.wr.suffix_at.Reads.Post
 wr-suffix-at-determined κs a x y v w p q = (p ∙ sym q, refl)
 
-pub wr-first-suffix-determined : Fixes its.wr.first_suffix.ended its.wr.first_suffix.Reads.Post
-wr-first-suffix-determined κs a x y v w p q = (p ∙ sym q, refl)
-
 pub wr-wr-flags-determined : Fixes its.wr.wr_flags.ended its.wr.wr_flags.Reads.Post
 wr-wr-flags-determined κs a x y v w p q = (p ∙ sym q, refl)
-
-pub wr-first-link-determined : Fixes its.wr.first_link.ended its.wr.first_link.Reads.Post
-wr-first-link-determined κs a x y v w p q = (p ∙ sym q, refl)

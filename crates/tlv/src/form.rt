@@ -4,7 +4,7 @@
 // version 1. At 10 stands the message number, at 12 the data.
 ghost use mathlib.Core.Path.{_≡_};
 ghost use Rattle.tlv.specs.Walk.{sizeAt, Fits};
-ghost use Rattle.tlv.specs.Form.{wrForm, HasForm, dataOctets, isMisfit, numbered, misfitBy, isSuffix, isLink};
+ghost use Rattle.tlv.specs.Form.{wrForm, HasForm, dataOctets, isMisfit, numbered, misfitBy, isSuffix};
 
 pub struct Form {
     pub kind: u16,
@@ -118,16 +118,6 @@ pub fn is_suffix(x: Numbered) -> bool
 {
     match x {
         Numbered::Number(n) => n == ANN_SUFIX,
-        Numbered::Other => false,
-    }
-}
-
-// Whether a TLV is one of the six link messages, which are numbered from SLAVE_PRESENT to MODE_ON.
-pub fn is_link(x: Numbered) -> bool
-    ensures { λ r. ⌜ r ≡ isLink x ⌝ }
-{
-    match x {
-        Numbered::Number(n) => (SLAVE_PRESENT <= n) & (n <= MODE_ON),
         Numbered::Other => false,
     }
 }

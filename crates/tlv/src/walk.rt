@@ -2,9 +2,9 @@
 ghost use mathlib.Core.Path.{_≡_};
 ghost use Prim.Native.Nat.{_≤_};
 ghost use lib.ListN.{length};
-ghost use Rattle.tlv.specs.Walk.{nextOf, first, dataAt, Fits};
+ghost use Rattle.tlv.specs.Walk.{nextOf};
 ghost use Rattle.tlv.specs.Form.{suffixAt};
-ghost use Rattle.tlv.specs.Faults.{soughtAt, laterOf, faultOf, isSound, soundOf};
+ghost use Rattle.tlv.specs.Faults.{laterOf, faultOf, soundOf};
 use crate::form;
 
 // Where a TLV ends, or that no whole TLV of even length stands there.
@@ -52,52 +52,8 @@ pub fn step(t: &[u8], at: usize) -> Next
     Next::Bad
 }
 
-// Whether the TLV at `at`, which is whole, is what the walk looks for.
-fn is_sought(t: &[u8], at: usize, what: Sought) -> bool
-    requires { ⌜ Fits (now t) at ⌝ }
-    ensures { λ r. ⌜ r ≡ soughtAt what (now (t .entry)) at ⌝ }
-{
-    let l = octets::held::u16_at(t, at + 2) as usize;
-    match what {
-        Sought::OfType(kind) => octets::held::u16_at(t, at) == kind,
-        Sought::Suffix(magic) => form::is_suffix(form::number_at(t, at, l, magic)),
-        Sought::Link(magic) => form::is_link(form::number_at(t, at, l, magic)),
-    }
-}
-
-// Where the first TLV stands that the walk looks for; the end of the tail where there is none.
-pub fn place(t: &[u8], what: Sought) -> usize
-    ensures { λ r. ⌜ r ≡ first (soughtAt what (now (t .entry))) (now (t .entry)) 0 ⌝ }
-{
-    let mut at: usize = 0;
-    while at < t.len() {
-        let Next::At(p) = step(t, at) else {
-            return t.len();
-        };
-        if is_sought(t, at, what) {
-            return at;
-        }
-        at = p;
-    }
-    t.len()
-}
-
-// The data of the first TLV of a type, as a part of the tail; empty where there is none.
-pub fn data_of(t: &[u8], kind: u16) -> &[u8]
-    ensures { λ r. ⌜ now r ≡ dataAt (now (t .entry)) (first (soughtAt (Sought.OfType kind) (now (t .entry))) (now (t .entry)) 0) ⌝ }
-{
-    let p = place(t, Sought::OfType(kind));
-    if p < t.len() {
-        let a = p + 4;
-        let n = octets::held::u16_at(t, p + 2) as usize;
-        &t[a..a + n]
-    } else {
-        &t[..0]
-    }
-}
-
 // The first place so far that passed a test, the end while there is none: `at` where that passes and no other came before.
-fn later(end: usize, so_far: usize, at: usize, passes: bool) -> usize
+pub fn later(end: usize, so_far: usize, at: usize, passes: bool) -> usize
     ensures { λ r. ⌜ r ≡ laterOf end «so_far» at passes ⌝ }
 {
     if so_far < end {
@@ -130,48 +86,8 @@ pub fn first_fault(t: &[u8], magic: u16) -> Fault
     Fault::Sound
 }
 
-// Whether nothing is wrong with a tail. This and the two walks below are for a reader that hopes so: they end at the first
-// thing that is wrong, and do not say what. Each has one caller and is made one piece with it.
-pub fn is_sound(t: &[u8], magic: u16) -> bool
-    ensures { λ r. ⌜ r ≡ isSound magic (now (t .entry)) ⌝ }
-{
-    let mut at: usize = 0;
-    while at < t.len() {
-        let Next::At(p) = step(t, at) else {
-            return false;
-        };
-        let l = p - at - 4;
-        let x = form::number_at(t, at, l, magic);
-        if form::misfits(x, l) {
-            return false;
-        }
-        at = p;
-    }
-    true
-}
-
-// Where the first TLV of a type stands in a sound tail.
-pub fn sound_place(t: &[u8], kind: u16, magic: u16) -> Sound
-    ensures { λ r. ⌜ r ≡ soundOf magic (soughtAt (Sought.OfType kind) (now (t .entry))) (now (t .entry)) ⌝ }
-{
-    let mut found = t.len();
-    let mut at: usize = 0;
-    while at < t.len() {
-        let Next::At(p) = step(t, at) else {
-            return Sound::Faulty;
-        };
-        let l = p - at - 4;
-        let x = form::number_at(t, at, l, magic);
-        if form::misfits(x, l) {
-            return Sound::Faulty;
-        }
-        found = later(t.len(), found, at, octets::held::u16_at(t, at) == kind);
-        at = p;
-    }
-    Sound::FirstAt(found)
-}
-
-// Where the first suffix stands in a sound tail. That a TLV is a suffix is settled before `later` is asked: the compiler
+// Where the first suffix stands in a sound tail. This is for a reader that hopes that nothing is wrong: it ends at the first
+// thing that is, and does not say what. It has one caller and is made one piece with it. That a TLV is a suffix is settled before `later` is asked: the compiler
 // then looks at the number once, for this and the size.
 pub fn sound_suffix(t: &[u8], magic: u16) -> Sound
     ensures { λ r. ⌜ r ≡ soundOf magic (suffixAt magic (now (t .entry))) (now (t .entry)) ⌝ }

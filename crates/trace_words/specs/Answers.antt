@@ -4,9 +4,9 @@ use Prim.Native.Nat.{ℕ}
 use mathlib.Core.List.{List, [], _∷_}
 use mathlib.Core.Bool.{Bool}
 use Rattle.refusal.specs.Choice.{pick}
-use Rattle.block.specs.declared.walking.Place.{Place}
-use Rattle.block.specs.declared.walking.Next.{Next}
-use Rattle.block.specs.declared.walking.Next.the-variants as next
+use Rattle.judging.specs.declared.walking.Place.{Place}
+use Rattle.judging.specs.declared.walking.Next.{Next}
+use Rattle.judging.specs.declared.walking.Next.the-variants as next
 pub use Rattle.recording.specs.Refusing.{recordedCode}
 use Rattle.recording.specs.declared.Recorded.{Recorded}
 use Rattle.recording.specs.declared.Recorded.the-variants as recorded

@@ -2,8 +2,8 @@
 // words are as they were.
 ghost use mathlib.Core.Path.{_≡_};
 ghost use Rattle.trace_words.specs.Answers.{recordedCode, recordedWords, finishedWords, replayedCode, replayedWords, placeWords, nextWords};
-use block::walking::Next;
-use block::walking::Place;
+use judging::walking::Next;
+use judging::walking::Place;
 use playback::Replayed;
 use recording::Recorded;
 

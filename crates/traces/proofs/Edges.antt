@@ -8,11 +8,11 @@ use Rattle.refusal.specs.Choice.{refuse}
 use Rattle.octets.specs.Be.{be}
 use Rattle.block.specs.Layout.{Entry, entriesFrom, entriesOf}
 use Rattle.block.specs.Check.{sumFrom, isChecked}
-use Rattle.block.specs.Tests.{allZero, laidFrom, isLaid, isInOrder, lastOf, verdictOf}
+use Rattle.judging.specs.Tests.{allZero, laidFrom, isLaid, isInOrder, lastOf, verdictOf}
 use Rattle.block.specs.Making.{sealed, addedTo, openedOf, entriesOctets, sizesOf, blockOf}
-use Rattle.block.specs.declared.judging.Reader.{Reader}
-use Rattle.block.specs.declared.judging.Verdict.{Verdict}
-use Rattle.block.specs.declared.judging.Verdict.the-variants.{Check, Layout, Number, Time, Sound}
+use Rattle.judging.specs.declared.Reader.{Reader}
+use Rattle.judging.specs.declared.Verdict.{Verdict}
+use Rattle.judging.specs.declared.Verdict.the-variants.{Check, Layout, Number, Time, Sound}
 
 abbrev entry : Entry
 entry = record { time = 0x1112131415161718; port = 7; message = 0x21 ∷ 0x22 ∷ 0x23 ∷ [] }

@@ -8,7 +8,7 @@ use Rattle.laws.proofs.Bools.{cases}
 use Rattle.refusal.specs.declared.Outcome.{Outcome}
 use Rattle.refusal.specs.declared.Outcome.the-variants as outcome
 use Rattle.block.specs.Layout.{Entry}
-use Rattle.block.specs.Tests.{isInOrder, lastOf as lastTime}
+use Rattle.judging.specs.Tests.{isInOrder, lastOf as lastTime}
 use Rattle.block.specs.Making.{All, OnPort}
 use Rattle.recording.specs.Recording.{lastOf, fits, recordCheck}
 use Rattle.recording.specs.Refusing.{Taken}

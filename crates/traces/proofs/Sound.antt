@@ -11,12 +11,13 @@ use borrow.Author.Tests.{le-leb}
 use Rattle.laws.proofs.Bools.{both}
 use Rattle.refusal.proofs.Choice.{goes-on}
 use Rattle.block.specs.Layout.{Entry, entriesOf}
-use Rattle.block.specs.Tests.{isWhole, isInOrder, lastOf, verdictOf, readerAfter}
+use Rattle.judging.specs.Tests.{isWhole, isInOrder, lastOf, verdictOf, readerAfter}
 use Rattle.block.specs.Making.{sizesOf, openBlock, blockOf, EntryFits, OnPort, All}
-use Rattle.block.specs.declared.judging.Reader.{Reader}
-use Rattle.block.specs.declared.judging.Verdict.the-variants as verdict
+use Rattle.judging.specs.declared.Reader.{Reader}
+use Rattle.judging.specs.declared.Verdict.the-variants as verdict
 use Rattle.block.proofs.Check.{sealed-checked}
-use Rattle.block.proofs.Made.{block-length, block-number, block-entries, block-laid}
+use Rattle.block.proofs.Made.{block-length, block-number, block-entries}
+use Rattle.judging.proofs.Laid.{block-laid}
 use Rattle.traces.specs.Taped.{freshTape, keptOf, cut, numbered, IsHeld, Filled, none, last, more, Sounds, end, next}
 use Rattle.traces.proofs.Cutting.{all-there, filled}
 use Rattle.traces.proofs.Meaning.{numbers-fit}

@@ -14,7 +14,7 @@ use Rattle.refusal.proofs.Numbers.{answered}
 use Rattle.senders.specs.Port.{outcomeOf}
 use Rattle.block.specs.Layout.{blockOctets, Entry, entriesOf}
 use Rattle.block.specs.Making.{EntryFits, All}
-use Rattle.block.specs.declared.judging.Reader.{Reader}
+use Rattle.judging.specs.declared.Reader.{Reader}
 use Rattle.recording.specs.Recording.{entryOf, recordCheck}
 use Rattle.ports.specs.declared.intake.Settings.{Settings}
 use Rattle.ports.specs.Intake.{planAt}

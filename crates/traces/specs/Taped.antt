@@ -9,9 +9,9 @@ use Rattle.refusal.specs.Choice.{pick}
 use Rattle.refusal.specs.declared.Outcome.{Outcome}
 use Rattle.refusal.specs.declared.Outcome.the-variants as outcome
 use Rattle.block.specs.Layout.{blockOctets, recordsAt, longest, Entry}
-use Rattle.block.specs.Tests.{verdictOf, readerAfter}
-use Rattle.block.specs.declared.judging.Reader.{Reader}
-use Rattle.block.specs.declared.judging.Verdict.the-variants as verdict
+use Rattle.judging.specs.Tests.{verdictOf, readerAfter}
+use Rattle.judging.specs.declared.Reader.{Reader}
+use Rattle.judging.specs.declared.Verdict.the-variants as verdict
 use Rattle.block.specs.Making.{sizeOf, sizesOf, sealed, openBlock, blockOf}
 use Rattle.recording.specs.Recording.{nextOf, endOf, isOpen, closes, recordCheck, openAfter, wordsAfter}
 

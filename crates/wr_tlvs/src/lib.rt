@@ -23,6 +23,8 @@ use tlv::form::SLAVE_PRESENT;
 use tlv::wr::LinkMessage;
 use writer::writing::Written;
 
+mod digits;
+
 // A TLV: the first `size` of its octets, the rest zero. The largest, CALIBRATED, has all 28.
 pub struct WrTlv {
     pub octets: [u8; 28],
@@ -35,10 +37,10 @@ fn built(number: u16, n: u16, content: [u8; 16], magic: u16) -> WrTlv
     ensures { λ r. ⌜ r ≡ record { octets = wrOctets magic number n content; size = 12 + n } ⌝ }
 {
     let f = tlv::form::wr_form(magic);
-    let k = octets::two(f.kind);
-    let l = octets::two(8 + n);
-    let s = octets::six(f.six);
-    let i = octets::two(number);
+    let k = digits::two(f.kind);
+    let l = digits::two(8 + n);
+    let s = digits::six(f.six);
+    let i = digits::two(number);
     WrTlv {
         octets: [
             k[0],
@@ -85,7 +87,7 @@ fn bare(number: u16, magic: u16) -> WrTlv
 fn calibrate_data(pattern: u8, retry: u8, period: u32) -> [u8; 16]
     ensures { λ r. ⌜ r ≡ pattern ∷ retry ∷ octetsOf 4 period (zeros 10) ⌝ }
 {
-    let p = octets::four(period);
+    let p = digits::four(period);
     [
         pattern,
         retry,
@@ -110,8 +112,8 @@ fn calibrate_data(pattern: u8, retry: u8, period: u32) -> [u8; 16]
 fn calibrated_data(tx: u64, rx: u64) -> [u8; 16]
     ensures { λ r. ⌜ r ≡ octetsOf 8 tx (octetsOf 8 rx (zeros 0)) ⌝ }
 {
-    let t = octets::eight(tx);
-    let r = octets::eight(rx);
+    let t = digits::eight(tx);
+    let r = digits::eight(rx);
     [
         t[0],
         t[1],
@@ -136,7 +138,7 @@ fn calibrated_data(tx: u64, rx: u64) -> [u8; 16]
 pub fn suffix(flags: u16, magic: u16) -> WrTlv
     ensures { λ r. ⌜ r ≡ suffixTlv magic flags ⌝ }
 {
-    let d = octets::two(flags % 16);
+    let d = digits::two(flags % 16);
     let content = [d[0], d[1], 0, 0, 0, 0, 0, 0, 0, 0, 0, 0, 0, 0, 0, 0];
     built(ANN_SUFIX, 2, content, magic)
 }

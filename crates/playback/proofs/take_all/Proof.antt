@@ -7,8 +7,8 @@ use native.Mathlib.Omega.{arith}
 use native.Mathlib.Nat.{sub-zero}
 use borrow.Author.Needs.{needs}
 use Rattle.block.specs.Layout.{entriesFrom, entriesOf}
-use Rattle.block.specs.Tests.{laidFrom}
-use Rattle.block.proofs.TestLaws.{laid, laid-on}
+use Rattle.judging.specs.Tests.{laidFrom}
+use Rattle.judging.proofs.TestLaws.{laid, laid-on}
 use Rattle.ports.specs.History.{run}
 use Rattle.playback.specs.Playback.{callsOf}
 use Rattle.playback.proofs.Blocks.{record-taken}

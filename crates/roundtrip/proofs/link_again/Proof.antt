@@ -7,8 +7,8 @@ use denote.Shadow.{shadow}
 use Rattle.tlv.specs.declared.wr.LinkMessage.{LinkMessage}
 use Rattle.tlv.specs.declared.wr.LinkMessage.the-variants.{SlavePresent, Lock, Locked, Calibrate, Calibrated, ModeOn}
 use Rattle.tlv.proofs.wr.LinkMessage as rows
-use Rattle.message.specs.Parts.{linkOf}
-use Rattle.message.specs.declared.parts.LinkRead.the-variants as link
+use Rattle.contents.specs.Parts.{linkOf}
+use Rattle.contents.specs.declared.parts.LinkRead.the-variants as link
 use Rattle.wr_tlvs.specs.Built.{linkOctets, signaling}
 use Rattle.roundtrip.specs.Range.{LinkRange}
 use Rattle.roundtrip.proofs.WrBack.{link-back}

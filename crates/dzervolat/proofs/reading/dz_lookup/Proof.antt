@@ -1,5 +1,5 @@
 -- `dz_lookup` meets its contract: what is found is put into the words, with the length that stands before its data.
-use Rattle.message.proofs.Part.{found-within, data-length}
+use Rattle.contents.proofs.Part.{found-within, data-length}
 use borrow.Author.Needs.{needs}
 use Rattle.dzervolat.proofs.reading.dz_lookup.Statement.{statement}
 use Rattle.dzervolat.proofs.reading.dz_lookup.Tie as tie

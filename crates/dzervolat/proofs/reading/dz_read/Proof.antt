@@ -5,11 +5,11 @@ use lib.ListN.{length}
 use Rattle.refusal.specs.Refusal.{codeOf}
 use Rattle.refusal.specs.declared.Outcome.the-variants.{Done}
 use Rattle.message.specs.Reading.{checkOf, readOf}
-use Rattle.message.specs.Parts.{tailIn}
-use Rattle.message.specs.Sound.{boundsAt}
-use Rattle.message.specs.declared.sound.Bounds.{Bounds}
+use Rattle.contents.specs.Parts.{tailIn}
+use Rattle.contents.specs.Sound.{boundsAt}
+use Rattle.contents.specs.declared.sound.Bounds.{Bounds}
 use Rattle.message.proofs.Laws.{accepted, bounded, fixed-part}
-use Rattle.message.proofs.SoundLaws.{whole-bounds, refused-bounds}
+use Rattle.contents.proofs.SoundLaws.{whole-bounds, refused-bounds}
 use Rattle.message_words.proofs.ReadingLaws.{unread, tail-read}
 use borrow.Author.Needs.{needs}
 use Rattle.dzervolat.proofs.reading.dz_read.Statement.{statement}

@@ -3,7 +3,7 @@ use mathlib.Core.Bool.{not}
 use mathlib.Core.Path.{ap}
 use borrow.Author.Tests.{lt-ltb, le-ltb, eq-eqb, ne-eqb}
 use Rattle.refusal.proofs.Choice.{stops, passes}
-use Rattle.message.specs.Parts.{announceLength}
+use Rattle.message.specs.Announced.{announceLength}
 use borrow.Author.Needs.{needs}
 use Rattle.message.proofs.announce.announce_length.Statement.{statement}
 use Rattle.message.proofs.announce.announce_length.Tie as tie

@@ -14,7 +14,7 @@ use Rattle.tlv.specs.declared.walk.Sound.the-variants.{FirstAt}
 use Rattle.tlv.proofs.FaultLaws.{sound-check, faulty-check}
 use Rattle.message.specs.Fields.{lengthOf, tailOf}
 use Rattle.message.specs.Reading.{checkOf}
-use Rattle.message.specs.Parts.{announcedOf}
+use Rattle.message.specs.Announced.{announcedOf}
 use Rattle.message.specs.declared.announce.Announced.the-variants as announced
 use Rattle.message.proofs.Laws.{accepted}
 use Rattle.message.proofs.AnnounceLaws.{Sized, sized, sized-tail, unsized, unstamped, sized-check, by-checks}

@@ -1,5 +1,5 @@
 -- `announce::refusal_of` meets its contract: by what the checks gave.
-use Rattle.message.specs.Parts.{refusalOf}
+use Rattle.message.specs.Announced.{refusalOf}
 use borrow.Author.Needs.{needs}
 use Rattle.message.proofs.announce.refusal_of.Statement.{statement}
 use Rattle.message.proofs.announce.refusal_of.Tie as tie

@@ -1,0 +1,5 @@
+pub mod Named
+pub mod Underway
+pub mod Bursts
+pub mod Witnesses
+pub mod Determined

@@ -1,0 +1,4 @@
+pub mod Parts
+pub mod Tlvs
+pub mod Sound
+pub mod Answers
