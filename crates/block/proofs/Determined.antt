@@ -7,6 +7,9 @@ use Rattle.block.proofs as its
 pub count-determined : Fixes its.count.ended its.count.Reads.Post
 count-determined κs a x y v w p q = (p ∙ sym q, refl)
 
+pub sums-folded-determined : Fixes its.sums.folded.ended its.sums.folded.Reads.Post
+sums-folded-determined κs a x y v w p q = (p ∙ sym q, refl)
+
 pub sums-remainder-determined : Fixes its.sums.remainder.ended its.sums.remainder.Reads.Post
 sums-remainder-determined κs a x y v w p q = (p ∙ sym q, refl)
 

@@ -48,6 +48,6 @@ pub fn seal(block: &[u8; OCTETS], out: &mut [u8; OCTETS])
     stores::copy_in(&mut out[..], 0, &block[..]);
     let first = octets::held::u16_at(&block[..], 0);
     let others = crate::sums::remainder(&block[..]) + 65535 - first as u64;
-    let check = 65535 - others % 65535;
+    let check = 65535 - crate::sums::folded(others);
     stores::two(&mut out[..], 0, check);
 }

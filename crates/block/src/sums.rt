@@ -1,6 +1,6 @@
 // The sum of a block's words, by which it is closed and judged. Nothing changes: the octets are lent to be read.
 ghost use mathlib.Core.Path.{_≡_};
-ghost use Prim.Native.Nat.{_+_, _*_, _%_, _≤_};
+ghost use Prim.Native.Nat.{_+_, _*_, _%_, _^_, _≤_, _<_};
 ghost use lib.ListN.{length};
 ghost use Rattle.block.specs.Layout.{blockOctets};
 ghost use Rattle.block.specs.Check.{sumFrom, sumOf};
@@ -25,6 +25,16 @@ fn four_at(s: &[u8], at: usize) -> u32
     low(s[at], s[at + 1], s[at + 2], s[at + 3])
 }
 
+// What a number leaves by 65,535: its 16-bit words are added until they are one, since 65,536 leaves 1.
+pub fn folded(n: u64) -> u64
+    requires { ⌜ n < 2 ^ 48 ⌝ }
+    ensures { λ r. ⌜ r ≡ n % 65535 ⌝ }
+{
+    let once = n % 65536 + n / 65536 % 65536 + n / 0x1_0000_0000;
+    let twice = once % 65536 + once / 65536;
+    if twice < 65535 { twice } else { twice - 65535 }
+}
+
 // What the sum of all words leaves by 65,535.
 pub fn remainder(s: &[u8]) -> u64
     requires { ⌜ length (now s) ≡ blockOctets ⌝ }
@@ -36,5 +46,5 @@ pub fn remainder(s: &[u8]) -> u64
         v += four_at(s, 4 * k) as u64;
         k += 1;
     }
-    256 * v % 65535
+    folded(v << 8)
 }

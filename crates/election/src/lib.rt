@@ -217,7 +217,8 @@ fn listed(top: Top, p: u8) -> bool
     let mut i: usize = 0;
     while i < n {
         let a = top.places[i];
-        if a / slots::WORDS + 1 == p as usize {
+        let port = ports::places::port_of(a);
+        if port == p as usize {
             return true;
         }
         i += 1;

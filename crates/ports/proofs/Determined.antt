@@ -30,6 +30,9 @@ places-is-late-determined κs a x y v w p q = (p ∙ sym q, refl)
 pub places-place-determined : Fixes its.places.place.ended its.places.place.Reads.Post
 places-place-determined κs a x y v w p q = (p ∙ sym q, refl)
 
+pub places-port-of-determined : Fixes its.places.port_of.ended its.places.port_of.Reads.Post
+places-port-of-determined κs a x y v w p q = (p ∙ sym q, refl)
+
 pub places-candidate-determined : Fixes its.places.candidate.ended its.places.candidate.Reads.Post
 places-candidate-determined κs a x y v w p q = (p ∙ sym q, refl)
 

@@ -8,7 +8,7 @@ ghost use lib.ListN.{length};
 ghost use Rattle.rank.specs.Order.{earlierOf};
 ghost use Rattle.rank.specs.Ranked.{isPort};
 ghost use Rattle.ports.specs.Words.{portAt, allWords};
-ghost use Rattle.ports.specs.Places.{placeOn, candidateAt};
+ghost use Rattle.ports.specs.Places.{placeOn, portBy, candidateAt};
 ghost use Rattle.slots.specs.Words.{portWords};
 use rank::Candidate;
 
@@ -34,13 +34,22 @@ pub fn place(words: &[u64], port: u8, t: u64) -> usize
     b + i
 }
 
+// The port of a place: 669 / 2^16 is hardly more than 1/98, and a product by so small a number is shifts and sums.
+pub fn port_of(at: usize) -> usize
+    requires { ⌜ at ≤ allWords ⌝ }
+    ensures { λ r. ⌜ r ≡ portBy at ⌝ }
+{
+    at * 669 / 65536 + 1
+}
+
 // The candidate at a place.
 pub fn candidate(words: &[u64], at: usize) -> Candidate
     requires { ⌜ (length (now words) ≡ allWords) × (at + 6 ≤ allWords) ⌝ }
     ensures { λ r. ⌜ r ≡ candidateAt (now (words .entry)) at ⌝ }
 {
     let r = slots::read(&words[at..at + 6]);
-    senders::candidate(r, (at / slots::WORDS + 1) as u8)
+    let port = port_of(at);
+    senders::candidate(r, port as u8)
 }
 
 // Whether the candidate at `a` stands before that at `b`, which is one of a port with a lower number.

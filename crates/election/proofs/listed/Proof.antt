@@ -1,6 +1,6 @@
 -- `listed` meets its contract: what is left to look at has a place of the port exactly when all of it does.
 use Prim.Native.Nat.{_-_}
-use mathlib.Core.Path.{_≡_, refl}
+use mathlib.Core.Path.{_≡_, refl, sym, _∙_}
 use native.Mathlib.Omega.{arith}
 use lib.ListN.{length, drop, length-map}
 use borrow.Author.Tests.{eq-eqb, ne-eqb}
@@ -28,8 +28,8 @@ mul-a c = search needs
 element-copy-out-a : tie.Need-element-copy-out-a Inv-loop μ-loop
 element-copy-out-a c = search needs
 
-add-if1 : tie.Need-add-if1 Inv-loop μ-loop
-add-if1 c =
+port-of-requires : tie.Need-port-of-requires Inv-loop μ-loop
+port-of-requires c κs =
     let l = c .before .before in
     let s = l .before in
     let z = size s in
@@ -37,11 +37,11 @@ add-if1 c =
 
 returns : tie.Need-returns Inv-loop μ-loop
 returns c =
-    let l = c .before .before .before in
+    let l = c .before .before .before .before in
     let s = l .before in
     let z = size s in
     let h = place-here (s .args .t1 .len) (s .args .t1 .places) (l .loop .i) (omega arith) (omega (arith, s .pre)) in
-    simp (eq-eqb _ _ (c .if1 .taken)) at (rw h at (l .loop .inv))
+    simp (eq-eqb _ _ (sym (c .before .port-of .ensures) ∙ c .if1 .taken)) at (rw h at (l .loop .inv))
 
 add-i : tie.Need-add-i Inv-loop μ-loop
 add-i c = search needs
@@ -51,11 +51,11 @@ loop-less c = search needs
 
 loop-again : tie.Need-loop-again Inv-loop μ-loop
 loop-again c =
-    let l = c .before .before .before in
+    let l = c .before .before .before .before in
     let s = l .before in
     let z = size s in
     let h = place-here (s .args .t1 .len) (s .args .t1 .places) (l .loop .i) (omega arith) (omega (arith, s .pre)) in
-    simp (ne-eqb _ _ (c .if1 .left)) at (rw h at (l .loop .inv))
+    simp (ne-eqb _ _ (λ e. c .if1 .left (c .before .port-of .ensures ∙ e))) at (rw h at (l .loop .inv))
 
 returns-2 : tie.Need-returns-2 Inv-loop μ-loop
 returns-2 c =
@@ -72,7 +72,7 @@ listed-spec =
     loop-holds
     mul-a
     element-copy-out-a
-    add-if1
+    port-of-requires
     returns
     add-i
     loop-less

@@ -1,7 +1,7 @@
 -- `remainder` meets its contract: the loop's invariant says that 256 times the sum so far and the words that are left leave by 65,535 what all words
 -- leave, and that each four so far added less than 4,294,967,296.
-use Prim.Native.Nat.{_≤_, _-_, _+_, _*_, _%_}
-use mathlib.Core.Path.{_≡_}
+use Prim.Native.Nat.{ℕ, _≤_, _-_, _+_, _*_, _%_, _^_}
+use mathlib.Core.Path.{_≡_, ap, _∙_}
 use native.Mathlib.Omega.{arith}
 use native.Mathlib.Nat.{add-zero}
 use Rattle.block.specs.Check.{sumFrom, sumOf}
@@ -41,14 +41,21 @@ loop-again c =
     let l = c .before .before in
     (omega arith, omega arith, omega (arith, sum-more (l .before .before .args .s .now) (l .loop .k) (omega arith)))
 
-mul-result : tie.Need-mul-result Inv-loop μ-loop
-mul-result c = omega arith
+-- 256 times the sum is a shift that loses nothing
+module _ (c : tie.After-loop Inv-loop μ-loop) where
+  up : c .before .loop .v * 256 % 2 ^ 64 ≡ 256 * c .before .loop .v
+  up = omega arith
+
+folded-requires : tie.Need-folded-requires Inv-loop μ-loop
+folded-requires c κs = let s = up c in omega arith
 
 returns : tie.Need-returns Inv-loop μ-loop
 returns c =
-    let l = c .before in
+    let l = c .before .before in
     let e : l .loop .k ≡ 128 = omega arith in
-    rw (e, sum-none, add-zero) at (l .loop .inv .2)
+    let s = up (c .before) in
+    let h = rw (e, sum-none, add-zero) at (l .loop .inv .2) in
+    c .folded .ensures ∙ ap (λ (t : ℕ). t % 65535) (omega (arith, s)) ∙ h
 
 pub remainder-spec : {M : Type 1} → statement M
 remainder-spec =
@@ -64,5 +71,5 @@ remainder-spec =
     add-k
     loop-less
     loop-again
-    mul-result
+    folded-requires
     returns)
