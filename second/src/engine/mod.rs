@@ -1,4 +1,4 @@
-//! The rules of document 01, with requests (i) to (iv) of document 02, written
+//! The rules of document 01, with requests (i) to (v) of document 02, written
 //! from these, the sources they name and the agreed readings alone.  Nothing
 //! here knows of lines or text.
 
