@@ -55,31 +55,22 @@ static long_word times(uint64_t k, uint64_t n)
 }
 
 /* n divided by d: d is moved up to the first digit of n, and taken off on its way down. Once for a word, and once for two. */
-static uint64_t divided(uint64_t n, uint64_t d)
-{
-    uint64_t unit = d, whole = 0;
-    int digits = 0;
-    for (; unit <= n >> 1; unit += unit) digits++;
-    for (; digits >= 0; digits--, unit >>= 1) {
-        whole += whole;
-        if (n >= unit) n -= unit, whole++;
+#define DIVISION(name, word) \
+    static uint64_t name(word n, uint64_t d, uint64_t *rest) \
+    { \
+        word unit = d; \
+        uint64_t whole = 0; \
+        int digits = 0; \
+        for (; unit <= n >> 1; unit += unit) digits++; \
+        for (; digits >= 0; digits--, unit >>= 1) { \
+            whole += whole; \
+            if (n >= unit) n -= unit, whole++; \
+        } \
+        *rest = (uint64_t)n; \
+        return whole; \
     }
-    return whole;
-}
-
-static uint64_t long_divided(long_word n, uint64_t d, uint64_t *rest)
-{
-    long_word unit = d;
-    uint64_t whole = 0;
-    int digits = 0;
-    for (; unit <= n >> 1; unit += unit) digits++;
-    for (; digits >= 0; digits--, unit >>= 1) {
-        whole += whole;
-        if (n >= unit) n -= unit, whole++;
-    }
-    *rest = (uint64_t)n;
-    return whole;
-}
+DIVISION(divided, uint64_t)
+DIVISION(long_divided, long_word)
 
 enum { FARTHEST = 16 };
 static const int64_t scaled_second = (int64_t)1000000000 << 16;
@@ -104,11 +95,11 @@ static int64_t shared(int64_t a, int64_t z)
 dz_answer c_measure_shifting(const uint64_t *x, uint64_t *measured)
 {
     int64_t outer, inner, delay, seconds, parts, before = (int64_t)x[DZ_E_SYNC] + (int64_t)x[DZ_E_FOLLOW];
-    uint64_t one = x[DZ_E_MASTER_TX] + x[DZ_E_SLAVE_RX];
+    uint64_t one = x[DZ_E_MASTER_TX] + x[DZ_E_SLAVE_RX], rest;
     if (!in_range(x)) return DZ_REFUSED_RANGE;
     if (!is_near(x + DZ_E_T4_SECONDS, x + DZ_E_T1_SECONDS, -(int64_t)x[DZ_E_RESP] - before, &outer)
         || !is_near(x + DZ_E_T3_SECONDS, x + DZ_E_T2_SECONDS, (int64_t)(x[DZ_E_T3_FRACTION] - x[DZ_E_T2_FRACTION]), &inner)) return DZ_REFUSED_RANGE;
-    delay = shared((int64_t)x[DZ_E_ASYMMETRY], outer - inner - (int64_t)divided(one + x[DZ_E_MASTER_RX] + x[DZ_E_SLAVE_TX], 1000)) + (int64_t)divided(one, 1000);
+    delay = shared((int64_t)x[DZ_E_ASYMMETRY], outer - inner - (int64_t)divided(one + x[DZ_E_MASTER_RX] + x[DZ_E_SLAVE_TX], 1000, &rest)) + (int64_t)divided(one, 1000, &rest);
     seconds = (int64_t)(x[DZ_E_T2_SECONDS] - x[DZ_E_T1_SECONDS]);
     parts = (int64_t)((x[DZ_E_T2_NANOS] - x[DZ_E_T1_NANOS]) << 16) + (int64_t)x[DZ_E_T2_FRACTION] - before - delay;
     for (; parts < 0; parts += scaled_second) seconds--;
