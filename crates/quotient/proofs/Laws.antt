@@ -1,9 +1,9 @@
 -- Laws of division by digits.
-use mathlib.Core.Path.{_≡_, refl, sym, ap, _∙_}
+use mathlib.Core.Path.{_≡_, sym, ap, _∙_}
 use Prim.Native.Nat.{ℕ, _+_, _-_, _*_, _/_, _%_, _^_, _≤_, _<_}
 use lib.Pow.{pow-add}
 use native.Mathlib.Omega.{arith}
-use native.Mathlib.Nat.{lt-of-mul-lt-mul-right, mul-comm, mul-add, add-mul, mul-assoc, div-add-mod, div-mul-le-self, div-eq-of-lt, div-eq-of-lt-le, div-eq-of-eq-mul-left, div-add-mod', mul-div-mul-left, mul-le-mul-left, le-of-mul-le-mul-right, mod-eq-of-lt, mod-lt, mul-add-div, mul-add-mod-self-left, add-mul-div-right, add-mul-mod-self-right}
+use native.Mathlib.Nat.{lt-of-mul-lt-mul-right, mul-comm, mul-add, add-mul, mul-assoc, div-add-mod, div-mul-le-self, div-eq-of-lt, div-eq-of-lt-le, div-eq-of-eq-mul-left, div-add-mod', mul-div-mul-left, mul-le-mul-left, le-of-mul-le-mul-right, mod-eq-of-lt, mod-lt, mul-add-div, add-mul-div-right, add-mul-mod-self-right}
 
 -- a shift that loses nothing
 pub shifted : (y d : ℕ) → y * d < 2 ^ 64 → y * d % 2 ^ 64 ≡ y * d
