@@ -4,9 +4,10 @@
 //! prints the names of the calls; `generate` prints lines by seed; `compare`
 //! gives such lines to another program and compares its answers with ours;
 //! `kinds` counts the kinds of answers that such lines reach; `replay` runs a
-//! trace again; `why` also tells what changed along it and by what; `histories`
-//! lets another program replay and compares what it prints with what was
-//! decided live.
+//! trace again; `why` also tells what changed along it and by what; `import`
+//! makes a trace of a capture and `export` a capture of a trace; `histories` lets
+//! another program replay and compares what it prints with what was decided
+//! live.
 
 mod engine;
 mod programs;
@@ -15,7 +16,9 @@ mod trial;
 
 use engine::candidate::PORTS;
 use engine::clock::Clock;
-use programs::replay::replayed;
+use engine::refusal::Refusal;
+use engine::transfer::{export, import};
+use programs::replay::{refused, replayed};
 use programs::why::explained;
 use protocol::answer::answer;
 use protocol::lines::next_line;
@@ -36,6 +39,8 @@ const USAGE: &str = "usage:
   second kinds CALLS COUNT SEED
   second replay
   second why [CLOCK [INTERVAL]]
+  second import PORT
+  second export
   second histories COUNT SEED -- PROGRAM [ARGUMENTS]
 
 CALLS is `all` for every call, or names of calls separated by commas, among which
@@ -66,6 +71,11 @@ fn run(arguments: &[String]) -> io::Result<ExitCode> {
             Some(clock) => run_why(&clock),
             None => Ok(usage()),
         },
+        ["import", port] => match number(port) {
+            Some(port) => run_import(port),
+            None => Ok(usage()),
+        },
+        ["export"] => run_export(),
         ["generate", calls, count, seed] => match lines_asked_for(calls, count, seed) {
             Some((generator, count)) => run_generate(generator, count),
             None => Ok(usage()),
@@ -162,11 +172,42 @@ fn number<N: TryFrom<i128>>(word: &str) -> Option<N> {
 
 /// Tells why decisions changed along the trace on standard input.
 fn run_why(clock: &Clock) -> io::Result<ExitCode> {
-    let mut trace = Vec::new();
-    io::stdin().lock().read_to_end(&mut trace)?;
-    let text = explained(clock, &trace)?;
+    let text = explained(clock, &whole_input()?)?;
     io::stdout().write_all(text.as_bytes())?;
     Ok(ExitCode::SUCCESS)
+}
+
+/// All of standard input.
+fn whole_input() -> io::Result<Vec<u8>> {
+    let mut octets = Vec::new();
+    io::stdin().lock().read_to_end(&mut octets)?;
+    Ok(octets)
+}
+
+/// Makes a trace of the capture on standard input, whose frames a port received.
+fn run_import(port: u8) -> io::Result<ExitCode> {
+    hand_out(import(&whole_input()?, port))
+}
+
+/// Makes a capture of the trace on standard input.
+fn run_export() -> io::Result<ExitCode> {
+    hand_out(export(&whole_input()?))
+}
+
+/// Puts a file on standard output, or its refusal on standard error.
+fn hand_out(file: Result<Vec<u8>, Refusal>) -> io::Result<ExitCode> {
+    match file {
+        Ok(octets) => {
+            let mut output = io::stdout().lock();
+            output.write_all(&octets)?;
+            output.flush()?;
+            Ok(ExitCode::SUCCESS)
+        }
+        Err(refusal) => {
+            eprint!("{}", refused(refusal));
+            Ok(ExitCode::FAILURE)
+        }
+    }
 }
 
 /// Prints lines.

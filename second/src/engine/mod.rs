@@ -1,9 +1,10 @@
-//! The rules of document 01, with requests (i) to (v) of document 02, written
+//! The rules of document 01, with requests (i) to (vi) of document 02, written
 //! from these, the sources they name and the agreed readings alone.  Nothing
 //! here knows of lines or text.
 
 pub mod block;
 pub mod candidate;
+pub mod capture;
 pub mod clock;
 pub mod comparison;
 pub mod decision;
@@ -20,5 +21,6 @@ pub mod refusal;
 pub mod replay;
 pub mod senders;
 pub mod tlv;
+pub mod transfer;
 pub mod white_rabbit;
 pub mod writing;

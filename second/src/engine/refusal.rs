@@ -34,6 +34,10 @@ pub enum Refusal {
     Long,
     /// A block of a trace that fails one of its tests.
     Block,
+    /// A capture that is none of the four forms, or that has a frame at fault.
+    Pcap,
+    /// A trace that no capture can hold.
+    Export,
 }
 
 impl Refusal {
@@ -60,6 +64,8 @@ impl Refusal {
             Refusal::Field => 18,
             Refusal::Long => 19,
             Refusal::Block => 20,
+            Refusal::Pcap => 21,
+            Refusal::Export => 22,
         }
     }
 

@@ -20,6 +20,7 @@ use crate::engine::reading::{look_up, read, read_link_message, read_suffix, walk
 use crate::engine::recording::Recording;
 use crate::engine::refusal::Refusal;
 use crate::engine::replay::replay;
+use crate::engine::transfer::{export, import, put_into};
 use crate::engine::white_rabbit::suffix_tlv;
 use crate::engine::writing::{write, write_signaling};
 
@@ -27,9 +28,9 @@ use crate::engine::writing::{write, write_signaling};
 pub const BAD_LINE: &str = "bad line";
 /// The answer of a call that has nothing to hand back.
 const OK: &str = "ok";
-/// The greatest buffer that `write` and `signal` may be given.
+/// The greatest buffer that a call which writes may be given.
 const GREATEST_ROOM: usize = 70_000;
-/// What the buffer holds before a message is written.
+/// What the buffer holds before anything is written.
 const UNWRITTEN: u8 = 0xa5;
 
 /// What a line, without its newline, answers; none for an empty line and a
@@ -81,6 +82,8 @@ fn call(clock: &mut Clock, mut tokens: Tokens) -> Option<String> {
         b"trace" => answer_trace(clock, tokens),
         b"recording" => answer_recording(clock, tokens),
         b"replay" => answer_replay(clock, tokens),
+        b"import" => answer_import(tokens),
+        b"export" => answer_export(tokens),
         _ => None,
     }
 }
@@ -497,4 +500,21 @@ fn answer_replay(clock: &mut Clock, mut tokens: Tokens) -> Option<String> {
         Ok((time, decided)) => format!("ok {time} {}", show::decisions(&decided.ports)),
         Err(refusal) => refused(refusal),
     })
+}
+
+/// `import ROOM PORT FILE`
+fn answer_import(mut tokens: Tokens) -> Option<String> {
+    let room = tokens.number()?;
+    let port = tokens.number()?;
+    let file = tokens.octets()?;
+    tokens.end()?;
+    written(room, |buffer| put_into(buffer, &import(&file, port)?))
+}
+
+/// `export ROOM TRACE`
+fn answer_export(mut tokens: Tokens) -> Option<String> {
+    let room = tokens.number()?;
+    let trace = tokens.octets()?;
+    tokens.end()?;
+    written(room, |buffer| put_into(buffer, &export(&trace)?))
 }

@@ -37,10 +37,12 @@ pub enum Call {
     Trace,
     Recording,
     Replay,
+    Import,
+    Export,
 }
 
 /// Every call with its name.
-pub const CALLS: [(&str, Call); 33] = [
+pub const CALLS: [(&str, Call); 35] = [
     ("fresh", Call::Fresh),
     ("clock", Call::Clock),
     ("domain", Call::Domain),
@@ -74,6 +76,8 @@ pub const CALLS: [(&str, Call); 33] = [
     ("trace", Call::Trace),
     ("recording", Call::Recording),
     ("replay", Call::Replay),
+    ("import", Call::Import),
+    ("export", Call::Export),
 ];
 
 /// How many calls at the front of the list are settings without a port, which

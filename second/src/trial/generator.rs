@@ -6,7 +6,9 @@ use super::burst_lines::burst_lines;
 use super::calls::Call;
 use super::comparison_lines::compare_line;
 use super::delay_lines::delay_line;
+use super::export_lines::export_lines;
 use super::history_lines as history;
+use super::import_lines::import_lines;
 use super::link_lines::{link_lines, link_settings_line, Wires};
 use super::malformed::{longest, malformed, silent};
 use super::origin_lines::origin_line;
@@ -201,6 +203,14 @@ impl Generator {
             }
             Call::Replay => {
                 let lines = replay_lines(random, &self.clock);
+                self.first_of(lines)
+            }
+            Call::Import => {
+                let lines = import_lines(random, &self.clock);
+                self.first_of(lines)
+            }
+            Call::Export => {
+                let lines = export_lines(random, &self.clock);
                 self.first_of(lines)
             }
         }
@@ -430,6 +440,19 @@ mod tests {
         assert_often(&replay, 1000, &["ok", "refused 20"]);
         assert_often(&replay, 50, &["M1", "M2", "M3", "S1", "S2", "P1"]);
         assert_often(&replay, 5, &["P2", "ok 0 "]);
+    }
+
+    #[test]
+    fn captures_of_every_kind_come_often() {
+        let import = answers_of("import", "import", 12_000);
+        let refusals = ["refused 8 ", "refused 11 ", "refused 16 ", "refused 19 "];
+        assert_often(&import, 300, &refusals);
+        assert_often(&import, 1000, &["refused 21 ", "ok 512 "]);
+        assert_often(&import, 100, &["ok 0 -", "ok 0 a5", "ok 1024 ", "ok 2048 "]);
+        let export = answers_of("export", "export", 12_000);
+        assert_often(&export, 500, &["refused 16 ", "refused 20 ", "refused 22 "]);
+        assert_often(&export, 50, &["ok 24 ", "ok 54 "]);
+        assert_often(&export, 1000, &["ok ", "a5a5"]);
     }
 
     #[test]

@@ -2,6 +2,7 @@
 
 use super::calls::CALLS;
 use super::generator::Vector;
+use crate::engine::block::BLOCK_SIZE;
 use crate::engine::candidate::PORT_COUNT;
 use std::collections::{BTreeMap, BTreeSet};
 
@@ -56,7 +57,7 @@ fn kind_of(vector: &Vector) -> String {
     };
     let words: Vec<&str> = answer.split(' ').collect();
     match (call_of(&vector.line).as_str(), words[0]) {
-        ("write" | "signal", "refused") => format!("refused {}", words[1]),
+        ("write" | "signal" | "import" | "export", "refused") => format!("refused {}", words[1]),
         (_, "refused") => taken_kind(answer),
         ("burst", "ok") => format!("ok {} messages", burst_kind(words[1])),
         ("read", "ok") => format!("ok type {}", words[1]),
@@ -79,6 +80,8 @@ fn kind_of(vector: &Vector) -> String {
         ("record", "ok") if words[1] != "-" => "ok closes a block".to_string(),
         ("trace", "ok") if words[1] != "-" => format!("ok {}", check_kind(words[1])),
         ("replay", "ok") => format!("ok {}", different(&words[2..])),
+        ("import", "ok") => imported_kind(words[1], words[2]),
+        ("export", "ok") => exported_kind(words[1], words[2]),
         ("rank" | "merge", "ok") => format!("ok {} entries", words[1]),
         ("delay", "ok") => format!(
             "ok delay {} offset {} rest {}",
@@ -149,6 +152,39 @@ fn check_kind(block: &str) -> &'static str {
         "0001" => "least check",
         "ffff" => "greatest check",
         _ => "check between",
+    }
+}
+
+/// How many blocks an imported trace has, and whether the buffer has octets
+/// behind it.
+fn imported_kind(length: &str, buffer: &str) -> String {
+    let blocks = length.parse().unwrap_or(0) / BLOCK_SIZE;
+    let told = match blocks {
+        0..=3 => blocks.to_string(),
+        4..=9 => "4 to 9".to_string(),
+        _ => "many".to_string(),
+    };
+    format!("ok {told} blocks{}", room_kind(length, buffer))
+}
+
+/// Whether an exported capture has frames, and whether the buffer has octets
+/// behind it.
+fn exported_kind(length: &str, buffer: &str) -> String {
+    let told = match length {
+        "24" => "no frame",
+        _ if length.len() < 5 => "frames",
+        _ => "many frames",
+    };
+    format!("ok {told}{}", room_kind(length, buffer))
+}
+
+/// Whether a buffer has octets behind what was written.
+fn room_kind(length: &str, buffer: &str) -> &'static str {
+    let octets = if buffer == "-" { 0 } else { buffer.len() / 2 };
+    if length == octets.to_string() {
+        ""
+    } else {
+        " with room left"
     }
 }
 

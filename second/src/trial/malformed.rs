@@ -42,7 +42,7 @@ const TOKENS: [&str; 34] = [
     "0x00000000000000000000000000000000000000000001",
 ];
 /// Names beside those of calls.
-const NAMES: [&str; 23] = [
+const NAMES: [&str; 27] = [
     "reads",
     "rea",
     "Read",
@@ -66,7 +66,15 @@ const NAMES: [&str; 23] = [
     "traces",
     "replays",
     "repla",
+    "imports",
+    "impor",
+    "exports",
+    "Export",
 ];
+
+/// A capture that has as many frames of no octets as zeros follow that fill the
+/// longest line.
+const ZERO_FRAMES: &str = "import 01 00018 a1b2c3d40002000400000000000000000000000000000001";
 
 /// The line one step away.
 pub fn malformed(random: &mut Random, line: Vec<u8>) -> Vec<u8> {
@@ -174,12 +182,13 @@ pub fn silent(random: &mut Random) -> Vec<u8> {
 /// A line at the greatest length or one past it, or a comment far beyond.
 pub fn longest(random: &mut Random) -> Vec<u8> {
     let length = LONGEST_LINE + random.place(2);
-    match random.below(6) {
+    match random.below(7) {
         0 => filled("magic ", b'0', length, "43981"),
         1 => filled("domain 0x", b'0', length, "0"),
         2 => filled("linkmessage 0c02002c", b'0', length, ""),
         3 => filled("burst 2 1 0 0b020040", b'0', length, " 2 0 -"),
         4 => filled("record 18 0 ", b'0', length, ""),
+        5 => filled(ZERO_FRAMES, b'0', length, ""),
         _ => filled("#", b' ', length + random.place(100_000), ""),
     }
 }

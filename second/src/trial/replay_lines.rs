@@ -43,7 +43,7 @@ pub fn replay_lines(random: &mut Random, clock: &Clock) -> Vec<Vec<u8>> {
 
 /// The line of `replay` for a trace, without its last octets where a line would
 /// be too long for them.
-fn line_of_replay(random: &mut Random, trace: &[u8]) -> Vec<u8> {
+pub fn line_of_replay(random: &mut Random, trace: &[u8]) -> Vec<u8> {
     let room = (LONGEST_LINE - "replay ".len()) / 2;
     let trace = &trace[..trace.len().min(room)];
     CallLine::named("replay").octets(random, trace).text()

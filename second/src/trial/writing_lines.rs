@@ -13,7 +13,7 @@ use crate::engine::message::{
 use crate::engine::white_rabbit::{data_size, CALIBRATE, CALIBRATED, PREFIX};
 
 /// The greatest buffer of the protocol.
-const GREATEST_ROOM: usize = 70_000;
+pub const GREATEST_ROOM: usize = 70_000;
 /// Values of transportSpecific that its four bits do not hold.
 const WIDE_TRANSPORTS: [u8; 6] = [16, 17, 32, 128, 240, 255];
 
