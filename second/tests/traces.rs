@@ -1,4 +1,5 @@
-//! The commands that take a trace, and the trial of a program that replays.
+//! The commands that take a trace or a capture, and the trial of a program that
+//! replays.
 
 use std::io::Write;
 use std::process::{Command, Output, Stdio};
@@ -106,6 +107,63 @@ fn why_takes_a_clock_and_an_interval() {
         &["replay", "0"],
     ] {
         assert!(!second(bad, &trace).status.success(), "{bad:?}");
+    }
+}
+
+/// Asserts that a command refuses what it is given: nothing on standard output,
+/// the number on standard error, and an end that is not well.
+fn assert_refused(arguments: &[&str], input: &[u8], number: u8) {
+    let output = second(arguments, input);
+    assert_eq!(output.stdout, b"", "{arguments:?}");
+    let told = String::from_utf8(output.stderr).unwrap();
+    assert_eq!(told, format!("refused {number}\n"), "{arguments:?}");
+    assert_eq!(output.status.code(), Some(1));
+}
+
+#[test]
+fn a_trace_goes_out_as_a_capture_and_comes_back() {
+    let trace = trace();
+    let exported = second(&["export"], &trace);
+    assert!(exported.status.success());
+    // Twelve Announces of 64 octets, each behind 16 and 14.
+    assert_eq!(exported.stdout.len(), 24 + 12 * 94);
+    let imported = second(&["import", "2"], &exported.stdout);
+    assert!(imported.status.success());
+    assert_eq!(imported.stdout, trace);
+    // Under another port it is another trace, which is written as the same.
+    let other = second(&["import", "0x12"], &exported.stdout).stdout;
+    assert_ne!(other, trace);
+    assert_eq!(second(&["export"], &other).stdout, exported.stdout);
+    // Nothing is a trace, and a capture without a frame gives it.
+    let empty = second(&["export"], b"").stdout;
+    assert_eq!(empty.len(), 24);
+    let nothing = second(&["import", "18"], &empty);
+    assert!(nothing.status.success());
+    assert_eq!(nothing.stdout, b"");
+}
+
+#[test]
+fn captures_and_traces_that_are_refused() {
+    let trace = trace();
+    let file = second(&["export"], &trace).stdout;
+    assert_refused(&["import", "2"], &file[..file.len() - 1], 21);
+    assert_refused(&["import", "0"], &file[..23], 21);
+    assert_refused(&["import", "0"], &file, 8);
+    assert_refused(&["import", "19"], &file, 8);
+    assert_refused(&["export"], &trace[..1023], 20);
+    let two_ports = recorded(&["record 1 0 -".to_string(), "record 2 0 -".to_string()]);
+    assert_refused(&["export"], &two_ports, 22);
+    let falls = [&file[..], &file[24..]].concat();
+    assert_refused(&["import", "2"], &falls, 11);
+    for bad in [
+        &["import"][..],
+        &["import", "256"],
+        &["import", "-1"],
+        &["import", "two"],
+        &["import", "2", "2"],
+        &["export", "2"],
+    ] {
+        assert_eq!(second(bad, &file).status.code(), Some(2), "{bad:?}");
     }
 }
 

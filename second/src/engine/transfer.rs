@@ -70,3 +70,37 @@ pub fn put_into(room: &mut [u8], file: &[u8]) -> Result<usize, Refusal> {
     room[..file.len()].copy_from_slice(file);
     Ok(file.len())
 }
+
+#[cfg(test)]
+mod tests {
+    use super::*;
+    use crate::engine::clock::Clock;
+    use crate::trial::candidates::port;
+    use crate::trial::captures::END_OF_SECONDS;
+    use crate::trial::random::Random;
+    use crate::trial::scene_lines::base;
+    use crate::trial::traces::{blocks, history};
+
+    #[test]
+    fn importing_an_exported_trace_under_its_own_port_gives_back_its_records() {
+        let mut random = Random::new(7);
+        let mut written = 0;
+        for _ in 0..3000 {
+            let base = base(&mut random);
+            let mut history = history(&mut random, &mut Clock::fresh(), &base);
+            let port = port(&mut random);
+            history.iter_mut().for_each(|one| one.port = port);
+            let trace = blocks(&mut random, &history).concat();
+            if history.iter().any(|one| one.time >= END_OF_SECONDS) {
+                assert_eq!(export(&trace), Err(Refusal::Export));
+                continue;
+            }
+            written += 1;
+            let file = export(&trace).unwrap();
+            let again = import(&file, port).unwrap();
+            assert_eq!(records_of_trace(&again), records_of_trace(&trace));
+            assert_eq!(export(&again), Ok(file));
+        }
+        assert!((2000..2900).contains(&written), "{written}");
+    }
+}

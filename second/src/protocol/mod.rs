@@ -10,6 +10,8 @@ pub mod tokens;
 #[cfg(test)]
 mod worked_bursts;
 #[cfg(test)]
+mod worked_captures;
+#[cfg(test)]
 mod worked_distant;
 #[cfg(test)]
 mod worked_lines;

@@ -5,13 +5,13 @@ use super::worked_rows::{answers, only};
 
 /// A block of 512 octets as digits: check word, number, first record's time,
 /// count, records, and zeros behind them.
-fn block(check: u16, number: u32, time: u64, count: u16, records: &str) -> String {
+pub fn block(check: u16, number: u32, time: u64, count: u16, records: &str) -> String {
     let head = format!("{check:04x}{number:08x}{time:016x}{count:04x}");
     format!("{:0<1024}", head + records)
 }
 
 /// A record as digits: time, port, length, message.
-fn record(time: u64, port: u8, message: &str) -> String {
+pub fn record(time: u64, port: u8, message: &str) -> String {
     let length = message.len() / 2;
     format!("{time:016x}{port:02x}{length:04x}{message}")
 }
@@ -26,7 +26,7 @@ fn zeros(count: usize) -> String {
 }
 
 /// Asserts that a fresh clock gives each line the answer beside it.
-fn assert_answers(lines: &[(&str, &str)]) {
+pub fn assert_answers(lines: &[(&str, &str)]) {
     let asked: Vec<&str> = lines.iter().map(|(line, _)| *line).collect();
     let given = answers(&asked);
     for ((line, expected), given) in lines.iter().zip(&given) {

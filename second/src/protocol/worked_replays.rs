@@ -5,18 +5,18 @@ use super::worked_rows::{answers, only};
 
 /// A block's parts, each of which a test may spoil before it is sealed.
 #[derive(Clone)]
-struct Parts {
-    number: u32,
-    time: u64,
-    count: u16,
+pub struct Parts {
+    pub number: u32,
+    pub time: u64,
+    pub count: u16,
     /// Digits of the records and of what stands behind them.
-    records: String,
+    pub records: String,
 }
 
 impl Parts {
     /// The parts of a block that holds these records, each a time, a port and a
     /// message's digits.
-    fn of(number: u32, records: &[(u64, u8, String)]) -> Parts {
+    pub fn of(number: u32, records: &[(u64, u8, String)]) -> Parts {
         let digits = |(time, port, message): &(u64, u8, String)| {
             let length = message.len() / 2;
             format!("{time:016x}{port:02x}{length:04x}{message}")
@@ -37,7 +37,7 @@ impl Parts {
 
     /// The block with the check word of 1 to 65,535 that makes the sum of its
     /// words a multiple of 65,535.
-    fn sealed(&self) -> String {
+    pub fn sealed(&self) -> String {
         let rest = self.unsealed();
         let sum = sum(&rest);
         let fits = |check: &u32| (check + sum).is_multiple_of(65_535);

@@ -3,11 +3,12 @@
 //! damaged, and buffers about as large as the capture; behind them what was
 //! written is read back.
 
+use super::call_line::CallLine;
 use super::candidates::port;
 use super::captures::END_OF_SECONDS;
 use super::damage::damaged;
 use super::history_lines::records_line;
-use super::import_lines::{export_line, import_line};
+use super::import_lines::{import_line, most_octets, room_for};
 use super::random::Random;
 use super::replay_lines::line_of_replay;
 use super::scene_lines::base;
@@ -33,6 +34,16 @@ pub fn export_lines(random: &mut Random, clock: &Clock) -> Vec<Vec<u8>> {
         read_back(random, &mut story, port, &trace, &file);
     }
     story.lines
+}
+
+/// A line of `export` with a buffer that fits more or less.
+pub fn export_line(random: &mut Random, trace: &[u8]) -> Vec<u8> {
+    let trace = &trace[..trace.len().min(most_octets())];
+    let room = room_for(random, &export(trace));
+    CallLine::named("export")
+        .number(random, room as u64)
+        .octets(random, trace)
+        .text()
 }
 
 /// Records of one port; at times with others among them, or with times at the

@@ -6,6 +6,7 @@ use super::call_line::CallLine;
 use super::candidates::{port, FOREIGN_PORTS};
 use super::capture_faults::spoil;
 use super::captures::{long_capture, sound_capture, CaptureDraft, FORMS};
+use super::export_lines::export_line;
 use super::history_lines::records_line;
 use super::random::Random;
 use super::record_lines::{line_of_record, trace_line};
@@ -145,14 +146,4 @@ fn use_trace(random: &mut Random, story: &mut Story, port: u8, trace: &[u8]) {
             story.say(import_line(random, port, &file));
         }
     }
-}
-
-/// A line of `export` with a buffer that fits more or less.
-pub fn export_line(random: &mut Random, trace: &[u8]) -> Vec<u8> {
-    let trace = &trace[..trace.len().min(most_octets())];
-    let room = room_for(random, &export(trace));
-    CallLine::named("export")
-        .number(random, room as u64)
-        .octets(random, trace)
-        .text()
 }
