@@ -20,6 +20,13 @@ extern __typeof__(dz_decide_all) c_decide_all;
 extern __typeof__(dz_trace_record) c_trace_record;
 extern __typeof__(dz_replay_block) c_replay_block;
 extern __typeof__(dz_replay) c_replay;
+extern __typeof__(dz_import) c_import;
+extern __typeof__(dz_export) c_export;
+extern __typeof__(dz_capture_head) c_capture_head;
+extern __typeof__(dz_capture_packet) c_capture_packet;
+extern __typeof__(dz_capture_record) c_capture_record;
+extern __typeof__(dz_capture_begin) c_capture_begin;
+extern __typeof__(dz_capture_block) c_capture_block;
 extern __typeof__(dz_link_take) c_link_take;
 extern __typeof__(dz_measure) c_measure, c_measure_shifting;
 

@@ -7,6 +7,8 @@
 #include "hand.h"
 
 enum { PORT = 7, ROOM = 128, ANNOUNCE_OCTETS = 64, RUN = DZ_PORTS * DZ_SLOTS, BURST = 64, BLOCKS = 16, A_BLOCK = 5, A_PORT = DZ_PORTS_WORDS / DZ_PORTS };
+/* A capture: of so many frames one in sixteen is foreign, and six of the others fill a block. */
+enum { FRAMES = 64, FOREIGN = 16, FRAME_OCTETS = DZ_FRAME_HEAD_OCTETS + ANNOUNCE_OCTETS, PACKET_OCTETS = DZ_PACKET_HEAD_OCTETS + FRAME_OCTETS, CAPTURED_BLOCKS = 10 };
 static const uint64_t second = 1000000000, own_clock = 1;
 static const uint16_t magic = DZ_EXAMPLE_MAGIC;
 
@@ -66,6 +68,8 @@ struct lent {
     uint8_t ring[BURST][ANNOUNCE_OCTETS];
     uint64_t recording[DZ_RECORDING_WORDS], opened[DZ_RECORDING_WORDS], closed, reader[DZ_READER_WORDS], last, heard[A_PORT];
     uint8_t open[DZ_BLOCK_OCTETS], block[DZ_BLOCK_OCTETS], trace[BLOCKS][DZ_BLOCK_OCTETS];
+    uint64_t form[DZ_FORM_WORDS], packet[DZ_PACKET_WORDS], exporter[DZ_EXPORTER_WORDS];
+    uint8_t capture[DZ_CAPTURE_HEAD_OCTETS + FRAMES * PACKET_OCTETS], packets[DZ_PACKETS_OCTETS];
 };
 static struct lent fresh, lent[2];
 
@@ -166,6 +170,35 @@ static void record_trace(struct lent *m, uint32_t senders)
 
 static void one_recorded_sender(struct lent *m) { record_trace(m, 1); }
 static void sixteen_recorded(struct lent *m) { record_trace(m, DZ_SLOTS); }
+
+static void put_low(uint8_t *p, uint32_t v) { __builtin_memcpy(p, &v, sizeof v); }
+
+/* A capture as tcpdump writes it on such a machine, little-endian, in microseconds: Announces, and some frames of IPv4 of as many octets. */
+static void full_capture(struct lent *m)
+{
+    static const uint32_t head[DZ_CAPTURE_HEAD_OCTETS / 4] = {0xa1b2c3d4, 0x00040002, 0, 0, 262144, 1};
+    plain(m);
+    __builtin_memcpy(m->capture, head, sizeof head);
+    for (uint32_t i = 0; i < FRAMES; i++) {
+        uint8_t *packet = m->capture + DZ_CAPTURE_HEAD_OCTETS + i * PACKET_OCTETS, *frame = packet + DZ_PACKET_HEAD_OCTETS;
+        put_low(packet, 1700000000 + i);
+        put_low(packet + 4, 123456);
+        put_low(packet + 8, FRAME_OCTETS);
+        put_low(packet + 12, FRAME_OCTETS);
+        frame[12] = i % FOREIGN ? 0x88 : 0x08;
+        frame[13] = i % FOREIGN ? 0xF7 : 0x00;
+        rename(m, PORT << 8, (uint16_t)i);
+        __builtin_memcpy(frame + DZ_FRAME_HEAD_OCTETS, m->announce, ANNOUNCE_OCTETS);
+    }
+    if (dz_capture_head(m->capture, m->form) != DZ_OK) leave(2);
+}
+
+/* The trace of it. */
+static void imported(struct lent *m)
+{
+    full_capture(m);
+    if (dz_import(m->trace[0], sizeof m->trace, PORT, m->capture, sizeof m->capture, &m->written) != DZ_OK || m->written != CAPTURED_BLOCKS * DZ_BLOCK_OCTETS) leave(2);
+}
 
 /* Two sets of one grandmaster, the second higher in one word; where that is of the quality, it is another grandmaster. */
 static void two_sets(struct lent *m, int word)
@@ -281,6 +314,24 @@ static dz_answer replay_block(struct lent *m, any_call *f, uint64_t i)
     return CALL(replay_block, m->ports, m->reader, m->trace[i % BLOCKS], DZ_BLOCK_OCTETS, 0, own_clock, magic);
 }
 
+static const uint8_t *packet_of(const struct lent *m, uint64_t i) { return m->capture + DZ_CAPTURE_HEAD_OCTETS + i * PACKET_OCTETS; }
+static dz_answer import(struct lent *m, any_call *f, uint64_t i) { return (void)i, CALL(import, m->trace[0], sizeof m->trace, PORT, m->capture, sizeof m->capture, &m->written); }
+static dz_answer export(struct lent *m, any_call *f, uint64_t i) { return (void)i, CALL(export, m->capture, sizeof m->capture, m->trace[0], CAPTURED_BLOCKS * DZ_BLOCK_OCTETS, &m->written); }
+static dz_answer capture_packet(struct lent *m, any_call *f, uint64_t i) { return CALL(capture_packet, m->form, packet_of(m, i % FRAMES), m->packet); }
+static dz_answer capture_record(struct lent *m, any_call *f, uint64_t i)
+{
+    return CALL(capture_record, m->recording, m->open, PORT, second + i, packet_of(m, 1) + DZ_PACKET_HEAD_OCTETS, FRAME_OCTETS, m->block, &m->closed);
+}
+static dz_answer pass_over(struct lent *m, any_call *f, uint64_t i)
+{
+    return CALL(capture_record, m->recording, m->open, PORT, second + i, packet_of(m, 0) + DZ_PACKET_HEAD_OCTETS, FRAME_OCTETS, m->block, &m->closed);
+}
+static dz_answer capture_block(struct lent *m, any_call *f, uint64_t i)
+{
+    m->exporter[DZ_EXPORTER_NEXT] = m->exporter[DZ_EXPORTER_LAST] = 0;
+    return CALL(capture_block, m->exporter, m->trace[i % CAPTURED_BLOCKS], DZ_BLOCK_OCTETS, m->packets, &m->written);
+}
+
 static dz_answer candidate(struct lent *m, any_call *f, uint64_t i) { return CALL(candidate, m->ports, PORT, i % DZ_SLOTS, 2 * second, m->found); }
 static dz_answer best(struct lent *m, any_call *f, uint64_t i) { return (void)i, CALL(best, m->ports, PORT, 2 * second, m->found); }
 static dz_answer compare(struct lent *m, any_call *f, uint64_t i) { return (void)i, CALL(compare, m->set, m->rival, &m->answer); }
@@ -323,6 +374,12 @@ static const struct row {
     {"replay-block-16", BOTH(replay_block), sixteen_recorded, replay_block, DZ_OK},
     {"replay-1", BOTH(replay), one_recorded_sender, replay, DZ_OK},
     {"replay-16", BOTH(replay), sixteen_recorded, replay, DZ_OK},
+    {"import", BOTH(import), full_capture, import, DZ_OK},
+    {"export", BOTH(export), imported, export, DZ_OK},
+    {"capture-packet", BOTH(capture_packet), full_capture, capture_packet, DZ_OK},
+    {"capture-record", BOTH(capture_record), full_capture, capture_record, DZ_OK},
+    {"capture-foreign", BOTH(capture_record), full_capture, pass_over, DZ_OK},
+    {"capture-block", BOTH(capture_block), imported, capture_block, DZ_OK},
     {"write", BOTH(write), plain, write, DZ_OK},
     {"candidate", BOTH(candidate), full_port, candidate, DZ_OK},
     {"best", BOTH(best), full_port, best, DZ_OK},

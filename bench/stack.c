@@ -15,6 +15,8 @@ static uint64_t run[RUN * DZ_CANDIDATE_WORDS], list[DZ_LIST_WORDS], words[DZ_LIS
 static uint64_t recording[DZ_RECORDING_WORDS], replayed[DZ_PORTS_WORDS], reader[DZ_READER_WORDS];
 static uint8_t open[DZ_BLOCK_OCTETS], block[DZ_BLOCK_OCTETS], trace[2 * DZ_BLOCK_OCTETS]; /* two blocks, each with an Announce */
 static size_t block_at;
+static uint64_t form[DZ_FORM_WORDS], exporter[DZ_EXPORTER_WORDS], captured;
+static uint8_t capture[512], head[DZ_CAPTURE_HEAD_OCTETS], packets[DZ_PACKETS_OCTETS], *const packet = capture + DZ_CAPTURE_HEAD_OCTETS; /* the trace's capture, and its first packet */
 static uint64_t burst[1][DZ_BURST_WORDS] = {{[DZ_BURST_PORT] = PORT, [DZ_BURST_LENGTH] = 78}};
 static uint8_t announce[78], sync[44] = {[1] = 2, [3] = 44}, frame[64], out[128], suffix[DZ_SUFFIX_OCTETS], decisions[DZ_PORTS];
 
@@ -35,6 +37,13 @@ static void call_trace_finish(void) { dz_trace_finish(recording, open, block, &n
 static void call_trace_walk(void) { dz_trace_walk(trace, 0, found); }
 static void call_replay_block(void) { dz_replay_block(replayed, reader, trace + block_at, DZ_BLOCK_OCTETS, 0, own_clock, magic), block_at += DZ_BLOCK_OCTETS; }
 static void call_replay(void) { dz_replay(replayed, trace, sizeof trace, 0, own_clock, magic, &number); }
+static void call_import(void) { dz_import(block, sizeof block, PORT, capture, captured, &number); }
+static void call_export(void) { dz_export(capture, sizeof capture, trace, sizeof trace, &captured); }
+static void call_capture_head(void) { dz_capture_head(capture, form); }
+static void call_capture_packet(void) { dz_capture_packet(form, packet, words); }
+static void call_capture_record(void) { recording[DZ_RECORDING_END] = DZ_BLOCK_OCTETS, dz_capture_record(recording, open, PORT, now, packet + DZ_PACKET_HEAD_OCTETS, DZ_FRAME_HEAD_OCTETS + sizeof announce, block, &number); }
+static void call_capture_begin(void) { dz_capture_begin(head); }
+static void call_capture_block(void) { exporter[DZ_EXPORTER_NEXT] = 0, dz_capture_block(exporter, trace, DZ_BLOCK_OCTETS, packets, &number); }
 static void call_candidate(void) { dz_candidate(ports, PORT, 0, now, found); }
 static void call_best(void) { dz_best(ports, PORT, now, found); }
 static void call_status(void) { dz_status(ports, PORT, words); }
@@ -59,6 +68,7 @@ static void call_measure(void) { dz_measure(exchange, words); }
 static const struct { const char *name; void (*call)(void); } calls[] = {
     CALL(version), CALL(read), CALL(lookup), CALL(walk), CALL(suffix), CALL(link_message), CALL(origin), CALL(write), CALL(write_link), CALL(write_suffix),
     CALL(take), CALL(take_burst), CALL(trace_record), CALL(trace_finish), CALL(trace_walk), CALL(replay_block), CALL(replay),
+    CALL(export), CALL(import), CALL(capture_head), CALL(capture_packet), CALL(capture_record), CALL(capture_begin), CALL(capture_block),
     CALL(candidate), CALL(best), CALL(status), CALL(record), CALL(set_interval), CALL(rank), CALL(merge), CALL(decide), CALL(decide_all), CALL(parent),
     CALL(compare), CALL(link_set), CALL(link_start), CALL(link_take), CALL(link_done), CALL(link_timeout), CALL(link_stop), CALL(link_status), CALL(measure),
 };

@@ -1,17 +1,6 @@
 /* Messages recorded in blocks, and blocks and whole traces replayed, by hand in C. */
-#include "octets.h"
+#include "block.h"
 #include "port.h"
-
-enum { NUMBER = 2, FIRST_TIME = 6, COUNT = 14, RECORDS = 16 };
-enum { ON_PORT = 8, LENGTH = 9, HEAD = 11 };
-
-/* The sum of a block's 16-bit words from an octet on. */
-static uint32_t sum(const uint8_t *b, size_t from)
-{
-    uint32_t v = 0;
-    for (size_t i = from; i < DZ_BLOCK_OCTETS; i += 2) v += be16(b + i);
-    return v;
-}
 
 static void open_block(uint8_t *open, uint32_t number, uint64_t t)
 {
@@ -23,16 +12,13 @@ static void open_block(uint8_t *open, uint32_t number, uint64_t t)
 static void close_block(const uint8_t *open, uint8_t *block)
 {
     __builtin_memcpy(block, open, DZ_BLOCK_OCTETS);
-    put16(block, (uint16_t)(65535 - sum(open, 2) % 65535));
+    put16(block, check_of(open));
 }
 
 static void add_record(uint8_t *open, size_t at, uint64_t port, uint64_t t, const uint8_t *s, size_t n)
 {
     put16(open + COUNT, (uint16_t)(be16(open + COUNT) + 1));
-    put64(open + at, t);
-    open[at + ON_PORT] = (uint8_t)port;
-    put16(open + at + LENGTH, (uint16_t)n);
-    __builtin_memcpy(open + at + HEAD, s, n);
+    put_record(open + at, port, t, s, n);
 }
 
 dz_answer c_trace_record(uint64_t *recording, uint8_t *open, uint64_t port, uint64_t t, const uint8_t *s, size_t n, uint8_t *block, uint64_t *closed)
@@ -54,39 +40,6 @@ dz_answer c_trace_record(uint64_t *recording, uint8_t *open, uint64_t port, uint
     recording[DZ_RECORDING_END] = end + HEAD + n;
     *closed = !fits && is_open;
     return DZ_OK;
-}
-
-/* Whether so many whole records follow the head of a block, of ports that there are and at times that do not fall, and zeros follow them; the last time. */
-static int are_records(const uint8_t *b, unsigned count, uint64_t *last)
-{
-    size_t at = RECORDS;
-    uint8_t rest = 0;
-    for (unsigned i = 0; i < count; i++) {
-        uint64_t t;
-        if (at > DZ_BLOCK_OCTETS - HEAD || !is_port(b[at + ON_PORT])) return 0;
-        t = be64(b + at);
-        if (t < *last) return 0;
-        *last = t;
-        at += HEAD + (size_t)be16(b + at + LENGTH);
-        if (at > DZ_BLOCK_OCTETS) return 0;
-    }
-    while (at < DZ_BLOCK_OCTETS) rest |= b[at++];
-    return rest == 0;
-}
-
-/* Whether octets are a block that may be replayed behind those that a reader has read; what the reader keeps then. */
-static int is_sound(const uint8_t *b, size_t n, const uint64_t *reader, uint64_t *after)
-{
-    uint32_t number;
-    unsigned count;
-    if (n != DZ_BLOCK_OCTETS || be16(b) == 0 || sum(b, 0) % 65535 != 0) return 0;
-    number = be32(b + NUMBER);
-    count = be16(b + COUNT);
-    if (count == 0 || be64(b + FIRST_TIME) != be64(b + RECORDS) || number < reader[DZ_READER_NEXT]) return 0;
-    after[DZ_READER_LAST] = reader[DZ_READER_LAST];
-    if (!are_records(b, count, after + DZ_READER_LAST)) return 0;
-    after[DZ_READER_NEXT] = (uint64_t)number + 1;
-    return 1;
 }
 
 static void take_records(uint64_t *ports, const uint8_t *b, uint8_t domain, uint64_t clock, uint16_t magic)
@@ -123,10 +76,8 @@ static void forget(uint64_t *ports)
 dz_answer c_replay(uint64_t *ports, const uint8_t *s, size_t n, uint8_t domain, uint64_t clock, uint16_t magic, uint64_t *last)
 {
     uint64_t reader[DZ_READER_WORDS] = {0};
-    for (size_t at = 0; at < n; at += DZ_BLOCK_OCTETS) {
-        size_t left = n - at;
-        if (!is_sound(s + at, left < DZ_BLOCK_OCTETS ? left : DZ_BLOCK_OCTETS, reader, reader)) return DZ_REFUSED_BLOCK;
-    }
+    for (size_t at = 0; at < n; at += DZ_BLOCK_OCTETS)
+        if (!is_sound(s + at, block_octets(n - at), reader, reader)) return DZ_REFUSED_BLOCK;
     forget(ports);
     for (size_t at = 0; at < n; at += DZ_BLOCK_OCTETS) take_records(ports, s + at, domain, clock, magic);
     *last = reader[DZ_READER_LAST];

@@ -49,7 +49,7 @@ extern "C" {
 /* Rises whenever a call, a constant, a place in words or the meaning of one changes; within one number all of it stays. A host compiled with one
    number must not run with a library of another: dz_version() == DZ_VERSION is worth a test at start. State that was kept from a library of another
    number is no longer state. */
-#define DZ_VERSION 5
+#define DZ_VERSION 6
 
 /* What every call returns: 0, or the number of its refusal in the low eight bits and, of DZ_REFUSED_TLV and DZ_REFUSED_WRBAD, a place above them. It is
    64 bits wide on every processor. */
@@ -90,11 +90,13 @@ enum dz_refusal {
     DZ_REFUSED_FULL = 13,     /* a new sender, and 16 live records on the port */
     DZ_REFUSED_RANGE = 14,    /* a number outside a limit of delay and offset */
     DZ_REFUSED_UNRANKED = 15, /* a list to merge or decide by is not a ranked list */
-    DZ_REFUSED_ROOM = 16,     /* output buffer smaller than the message */
+    DZ_REFUSED_ROOM = 16,     /* output buffer smaller than the message, the trace or the capture */
     DZ_REFUSED_MANY = 17,     /* more than 288 candidates, or messages of a burst; more blocks than there are numbers */
     DZ_REFUSED_FIELD = 18,    /* a value does not fit its field, would be refused when read, or a setting is out of range */
     DZ_REFUSED_LONG = 19,     /* a message to record has more than 485 octets */
-    DZ_REFUSED_BLOCK = 20     /* a block of a trace: its check, layout, number or times are wrong */
+    DZ_REFUSED_BLOCK = 20,    /* a block of a trace: its check, layout, number or times are wrong */
+    DZ_REFUSED_PCAP = 21,     /* no capture: a wrong head, link type or fraction, a frame stored short or running past the file */
+    DZ_REFUSED_EXPORT = 22    /* a trace that no capture can hold: it mixes ports, or a time's seconds exceed 32 bits */
 };
 
 #define DZ_PORTS 18 /* numbered from 1 */
@@ -126,6 +128,8 @@ static inline const char *dz_refusal_text(dz_answer answer)
     case DZ_REFUSED_FIELD: return "FIELD";
     case DZ_REFUSED_LONG: return "LONG";
     case DZ_REFUSED_BLOCK: return "BLOCK";
+    case DZ_REFUSED_PCAP: return "PCAP";
+    case DZ_REFUSED_EXPORT: return "EXPORT";
     default: return "?";
     }
 }
@@ -529,6 +533,81 @@ dz_answer dz_replay_block(uint64_t ports[DZ_PORTS_WORDS], uint64_t reader[DZ_REA
    record, 0 where the trace is empty: a time for dz_decide_all. Refuses 20 where dz_replay_block would refuse one of its blocks, a short one at the end too;
    all of them are looked at first. */
 dz_answer dz_replay(uint64_t ports[DZ_PORTS_WORDS], const uint8_t *octets, size_t length, uint8_t domain, uint64_t clock, uint16_t magic, uint64_t *last);
+
+/* ---- Captures: pcap files into traces, and traces into pcap files ----------------------------------------------------------------- */
+
+/* A classic pcap file, as tcpdump and Wireshark write it: a head of 24 octets, then packets, each a head of 16 octets and a frame. It is read in all four forms:
+   either octet order, microseconds (magic 0xa1b2c3d4) or nanoseconds (0xa1b23c4d); version 2.4 and link type 1 (Ethernet). Frames of EtherType 0x88F7 are
+   recorded without their 14-octet head, whatever they hold behind it, padding too; others, tagged ones and those of fewer than 14 octets are passed over. */
+#define DZ_CAPTURE_HEAD_OCTETS 24
+#define DZ_PACKET_HEAD_OCTETS 16
+#define DZ_FRAME_HEAD_OCTETS 14
+
+/* Reads a whole capture into a trace on one port, as a fresh recording makes it of the frames in their order; *written is the trace's length. Octets of `out` behind
+   it stay. Refuses, in this order: 21 for a file that is no capture, looked at to its end; 8; what dz_trace_record gives the first frame that it refuses (19, 11);
+   16 where the trace has more octets than `room`. dz_replay accepts the trace. */
+dz_answer dz_import(uint8_t *out, size_t room, uint64_t port, const uint8_t *octets, size_t length, uint64_t *written);
+
+/* Writes a whole trace as a capture, nanoseconds and big-endian, its snapshot length 65,535, its addresses and other fields zero; *written is the capture's length.
+   Octets of `out` behind it stay. Refuses, in this order: 20 as dz_replay does; 22 for records of two ports, or a time whose seconds exceed 32 bits; 16 where the
+   capture has more octets than `room`. Read again under its own port, it gives the records of the trace. */
+dz_answer dz_export(uint8_t *out, size_t room, const uint8_t *octets, size_t length, uint64_t *written);
+
+/* For a file that is larger than a buffer: its head, and then one packet after another, recorded by dz_capture_record. The file ends behind a packet or behind the
+   head; a host that finds another end has met a frame running past the file, which dz_import refuses with 21.
+
+       static uint64_t recording[DZ_RECORDING_WORDS];                    // zeroed: a fresh recording
+       static uint8_t open[DZ_BLOCK_OCTETS];
+       uint8_t head[DZ_CAPTURE_HEAD_OCTETS], packet[DZ_PACKET_HEAD_OCTETS], block[DZ_BLOCK_OCTETS];
+       uint64_t form[DZ_FORM_WORDS], is[DZ_PACKET_WORDS], closed;
+       fetch(head, sizeof head); dz_capture_head(head, form);
+       while (fetch(packet, sizeof packet)) {
+           dz_capture_packet(form, packet, is); fetch(frame, is[DZ_K_STORED]);
+           if (dz_capture_record(recording, open, port, is[DZ_K_TIME], frame, is[DZ_K_STORED], block, &closed) == DZ_OK && closed) write_away(block);
+       }
+       if (dz_trace_finish(recording, open, block, &closed) == DZ_OK && closed) write_away(block); */
+
+/* The form of a file. */
+enum dz_form {
+    DZ_FORM_LITTLE = 0, /* 1 where the lowest octet of a number comes first */
+    DZ_FORM_UNIT = 1,   /* the nanoseconds of one count of a fraction: 1000 or 1 */
+    DZ_FORM_WORDS = 2
+};
+
+/* The form that a file's head tells. Refuses 21 where it is no head of a capture of Ethernet frames. */
+dz_answer dz_capture_head(const uint8_t head[DZ_CAPTURE_HEAD_OCTETS], uint64_t form[DZ_FORM_WORDS]);
+
+/* A packet, by its head. */
+enum dz_packet {
+    DZ_K_TIME = 0,   /* nanoseconds */
+    DZ_K_STORED = 1, /* the octets of the frame, which follow the head */
+    DZ_PACKET_WORDS = 2
+};
+
+/* What a packet's head says. Refuses 21 for a fraction of a second or more, a frame stored short, or words that are no form. */
+dz_answer dz_capture_packet(const uint64_t form[DZ_FORM_WORDS], const uint8_t head[DZ_PACKET_HEAD_OCTETS], uint64_t packet[DZ_PACKET_WORDS]);
+
+/* Records the message of a frame that arrived on `port` at `time`, as dz_trace_record does, or passes the frame over, and then nothing changes but that *closed is 0.
+   Of a frame of more than DZ_FRAME_HEAD_OCTETS + DZ_TRACE_LONGEST octets one octet more than that is enough to lend: it is refused with 19, or passed over. */
+dz_answer dz_capture_record(uint64_t recording[DZ_RECORDING_WORDS], uint8_t open[DZ_BLOCK_OCTETS], uint64_t port, uint64_t time, const uint8_t *frame, size_t length, uint8_t block[DZ_BLOCK_OCTETS], uint64_t *closed);
+
+/* For a trace that is larger than a buffer: the capture's head, and then the packets of one block after another. */
+#define DZ_PACKETS_OCTETS 1351 /* the most that the packets of a block have */
+
+/* What a writer keeps from block to block; zeroed, it has written none. */
+enum dz_exporter {
+    DZ_EXPORTER_NEXT = 0, /* the lowest number that the next block may have */
+    DZ_EXPORTER_LAST = 1, /* the last record's time, nanoseconds */
+    DZ_EXPORTER_PORT = 2, /* the port of the records so far, 0 where there is none */
+    DZ_EXPORTER_WORDS = 3
+};
+
+/* The head of a capture. It refuses nothing. */
+dz_answer dz_capture_begin(uint8_t head[DZ_CAPTURE_HEAD_OCTETS]);
+
+/* The packets of a block behind those that were written; *written is how many octets they have, and the octets behind them stay. Refuses 20 as dz_replay_block does, then
+   22 as dz_export does. */
+dz_answer dz_capture_block(uint64_t exporter[DZ_EXPORTER_WORDS], const uint8_t *octets, size_t length, uint8_t packets[DZ_PACKETS_OCTETS], uint64_t *written);
 
 /* ---- White Rabbit links -------------------------------------------------------------------------------------------------------- */
 

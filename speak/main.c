@@ -37,6 +37,8 @@ static const struct {
     {"trace", call_trace},
     {"recording", call_recording},
     {"replay", call_replay},
+    {"import", call_import},
+    {"export", call_export},
     {"compare", call_compare},
     {"rank", call_rank},
     {"merge", call_merge},

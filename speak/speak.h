@@ -10,7 +10,7 @@
 enum {
     LONGEST_LINE = 300000,          /* characters of a call, its newline not counted */
     MOST_OCTETS = LONGEST_LINE / 2, /* more than such a line can hold, two digits each */
-    MOST_ROOM = 70000,              /* octets of a buffer that a message is written into */
+    MOST_ROOM = 70000,              /* octets of a buffer that is written into */
     MOST_COUNTED = 400              /* candidates of a list, messages of a burst: more than the library takes, so that its refusal can be seen */
 };
 
@@ -91,6 +91,11 @@ bool found_one(dz_answer answer, const uint64_t *found, const char *none);
 void end_answer(void);
 void send_answers(void);
 
+/* ---- What is written into (buffer.c) -------------------------------------------------------------------------------------------- */
+
+uint8_t *unwritten(uint64_t room);
+void say_written(dz_answer answer, uint64_t written, const uint8_t *out, uint64_t room);
+
 /* ---- Standard input (input.c) --------------------------------------------------------------------------------------------------- */
 
 bool next_line(struct token *line);
@@ -106,6 +111,7 @@ call call_write, call_signal, call_suffixtlv;                                   
 call call_take, call_burst, call_candidates, call_best, call_records;                             /* records.c */
 call call_compare, call_rank, call_merge, call_decide, call_all, call_parent;                     /* ranking.c */
 call call_record, call_trace, call_recording, call_replay;                                        /* traces.c */
+call call_import, call_export;                                                                    /* captures.c */
 call call_link;                                                                                   /* links.c */
 call call_delay;                                                                                  /* delay.c */
 

@@ -3,8 +3,8 @@
 
    After each call all that was lent to it is compared with what it was: a refusal has changed nothing, an answer has changed only what it
    may, not a word beside it. A call gives no number that it cannot give. What can be said without the engine is said here over again: which words are
-   too wide for their fields, which ports are none, which lists are ranked, which blocks of a trace are sound; then the number is the one of the header, in
-   its order, and nothing is cut. Answers are held against one another where the rules tie them together.
+   too wide for their fields, which ports are none, which lists are ranked, which blocks of a trace are sound, which octets are a capture; then the number is the one
+   of the header, in its order, and nothing is cut. Answers are held against one another where the rules tie them together.
 
    The calls are those of histories of several kinds: with all of it by chance, with senders that mostly repeat themselves (12), with runs of about as many
    candidates as may be ranked and bursts of about as many messages as one may hold (17), and on words that no call has left. fuzz [CALLS [SEED]] ends with status 1 at the first thing that is wrong. */
@@ -65,19 +65,21 @@ static void set_to_edge(uint64_t *w, size_t n)
 
 /* Each thing that is lent stands in a box of its own, with words before and behind it that no call may touch. */
 enum box { PORTS, LINKS, FRAME, FOLLOW, TAIL, OUT, RING, BURST, MESSAGE, LINK, RUN, LIST, OTHER, MERGED, TOGETHER, OWN, BEST, SET, RIVAL, EXCHANGE, RECORD, FOUND, STEP, DECISIONS, ANSWER,
-    RECORDING, OPEN, BLOCK, TRACE, READER, REPLAYED, BOXES };
+    RECORDING, OPEN, BLOCK, TRACE, READER, REPLAYED, CAPTURE, FORM, PACKET, IMPORTED, EXPORTER, PACKETS, BOXES };
 enum { GUARD = 4, LONGEST_RUN = 300, LONGEST_BURST = 300, OCTETS = 640, RING_OCTETS = 4096, TRACE_OCTETS = 12 * DZ_BLOCK_OCTETS, BOX_WORDS = DZ_BLOCK_OCTETS / 8 + GUARD };
+enum { PACKETS_WORDS = (DZ_PACKETS_OCTETS + 7) / 8, CAPTURE_WORDS = DZ_CAPTURE_HEAD_OCTETS / 8 + TRACE_OCTETS / DZ_BLOCK_OCTETS * PACKETS_WORDS, CAPTURE_OCTETS = CAPTURE_WORDS * 8 };
 
 static const size_t sizes[BOXES] = {
     [PORTS] = DZ_PORTS_WORDS, [LINKS] = DZ_LINKS_WORDS, [RUN] = LONGEST_RUN * DZ_CANDIDATE_WORDS, [FRAME] = OCTETS / 8, [FOLLOW] = OCTETS / 8, [TAIL] = OCTETS / 8, [OUT] = OCTETS / 8,
     [RING] = RING_OCTETS / 8, [BURST] = LONGEST_BURST * DZ_BURST_WORDS, [TRACE] = TRACE_OCTETS / 8, [REPLAYED] = DZ_PORTS_WORDS,
+    [CAPTURE] = CAPTURE_WORDS, [IMPORTED] = TRACE_OCTETS / 8, [PACKETS] = PACKETS_WORDS,
 };
-static uint64_t memory[2 * DZ_PORTS_WORDS + DZ_LINKS_WORDS + LONGEST_RUN * DZ_CANDIDATE_WORDS + 4 * OCTETS / 8 + (RING_OCTETS + TRACE_OCTETS) / 8 + LONGEST_BURST * DZ_BURST_WORDS
-    + BOXES * BOX_WORDS + GUARD];
+static uint64_t memory[2 * DZ_PORTS_WORDS + DZ_LINKS_WORDS + LONGEST_RUN * DZ_CANDIDATE_WORDS + 4 * OCTETS / 8 + (RING_OCTETS + 2 * TRACE_OCTETS) / 8 + LONGEST_BURST * DZ_BURST_WORDS
+    + CAPTURE_WORDS + PACKETS_WORDS + BOXES * BOX_WORDS + GUARD];
 static uint64_t before[sizeof memory / 8];
 static uint64_t *boxes[BOXES];
 static uint8_t *changeable[BOXES]; /* the end of what a call may change, from the box's first octet on */
-static uint64_t calls, answers[DZ_REFUSED_BLOCK + 1];
+static uint64_t calls, answers[DZ_REFUSED_EXPORT + 1];
 static const char *calling = "";
 
 static void lay_out(void)
@@ -163,7 +165,7 @@ static dz_answer end(dz_answer answer, uint32_t given)
     calls++;
     uint64_t number = dz_number(answer);
     int placed = number == DZ_REFUSED_TLV || number == DZ_REFUSED_WRBAD;
-    expect(number <= DZ_REFUSED_BLOCK, "a number past 20");
+    expect(number <= DZ_REFUSED_EXPORT, "a number past 22");
     answers[number]++;
     expect(given >> number & 1, "a number that it cannot give");
     expect(placed ? dz_place(answer) >= 44 && dz_place(answer) < 65536 : dz_place(answer) == 0, "a place that its number has not");
@@ -380,6 +382,86 @@ static int has_place(uint64_t next, size_t n)
     return is_open(next) && next <= DZ_BLOCK_OCTETS && n + MESSAGE_AT <= DZ_BLOCK_OCTETS - next;
 }
 
+/* ---- captures ------------------------------------------------------------------------------------------------------------------ */
+
+/* The head of a file, its magic first, and that of a packet, its seconds first; and where a frame has its type. */
+enum { VERSION_AT = 4, REVISION_AT = 6, LINK_TYPE_AT = 20 };
+enum { FRACTION_AT = 4, STORED_AT = 8, ORIGINAL_AT = 12 };
+enum { TYPE_AT = 12, PTP = 0x88F7, BEFORE = DZ_PACKET_HEAD_OCTETS + DZ_FRAME_HEAD_OCTETS };
+static const uint64_t micro_magic = 0xa1b2c3d4, nano_magic = 0xa1b23c4d, second_nanos = 1000000000, last_second = 4294967295;
+
+/* A number as a file of a form has it. */
+static uint64_t get_in(const uint64_t *form, const uint8_t *o, size_t n)
+{
+    uint64_t w = 0;
+    if (!form[DZ_FORM_LITTLE]) return get(o, n);
+    while (n > 0) w = w << 8 | o[--n];
+    return w;
+}
+
+static void put_in(const uint64_t *form, uint8_t *o, size_t n, uint64_t w)
+{
+    if (!form[DZ_FORM_LITTLE]) put(o, n, w);
+    else for (size_t i = 0; i < n; i++, w >>= 8) o[i] = (uint8_t)w;
+}
+
+/* Whether octets begin a file, and the form that they tell. */
+static int is_head(const uint8_t *head, uint64_t form[DZ_FORM_WORDS])
+{
+    for (form[DZ_FORM_LITTLE] = 0; form[DZ_FORM_LITTLE] <= 1; form[DZ_FORM_LITTLE]++) {
+        uint64_t magic_there = get_in(form, head, 4);
+        if (magic_there != micro_magic && magic_there != nano_magic) continue;
+        form[DZ_FORM_UNIT] = magic_there == micro_magic ? 1000 : 1;
+        return get_in(form, head + VERSION_AT, 2) == 2 && get_in(form, head + REVISION_AT, 2) == 4 && get_in(form, head + LINK_TYPE_AT, 4) == 1;
+    }
+    return 0;
+}
+
+/* Whether octets are the head of a packet, and what it says. */
+static int is_packet(const uint64_t *form, const uint8_t *head, uint64_t packet[DZ_PACKET_WORDS])
+{
+    uint64_t fraction = get_in(form, head + FRACTION_AT, 4) * form[DZ_FORM_UNIT];
+    packet[DZ_K_TIME] = get_in(form, head, 4) * second_nanos + fraction;
+    packet[DZ_K_STORED] = get_in(form, head + STORED_AT, 4);
+    return fraction < second_nanos && packet[DZ_K_STORED] >= get_in(form, head + ORIGINAL_AT, 4);
+}
+
+/* Whether words are a form: any number but 0 is the order in which the lowest octet comes first. */
+static int is_form(const uint64_t *form)
+{
+    return form[DZ_FORM_UNIT] == 1 || form[DZ_FORM_UNIT] == 1000;
+}
+
+/* Whether octets are a capture to their end. */
+static int is_capture(const uint8_t *file, size_t n)
+{
+    uint64_t form[DZ_FORM_WORDS], packet[DZ_PACKET_WORDS];
+    if (n < DZ_CAPTURE_HEAD_OCTETS || !is_head(file, form)) return 0;
+    for (size_t at = DZ_CAPTURE_HEAD_OCTETS; at < n; at += DZ_PACKET_HEAD_OCTETS + packet[DZ_K_STORED])
+        if (n - at < DZ_PACKET_HEAD_OCTETS || !is_packet(form, file + at, packet) || packet[DZ_K_STORED] > n - at - DZ_PACKET_HEAD_OCTETS) return 0;
+    return 1;
+}
+
+static int is_ptp(const uint8_t *frame, size_t n)
+{
+    return n >= DZ_FRAME_HEAD_OCTETS && get(frame + TYPE_AT, 2) == PTP;
+}
+
+/* Whether a capture can hold the records of a sound block: all are of one port, and their seconds fit. */
+static int is_writable(const uint8_t *b, uint64_t port)
+{
+    size_t at = RECORDS_AT;
+    for (uint64_t left = get(b + COUNT_AT, 2); left > 0; left--, at = record_end(b, at))
+        if (b[at + PORT_AT] != port || get(b + at, 8) / second_nanos > last_second) return 0;
+    return 1;
+}
+
+/* The port of the first record of a block. */
+static uint64_t first_port(const uint8_t *b)
+{
+    return b[RECORDS_AT + PORT_AT];
+}
+
 /* ---- the calls, and the number that each must give as far as it is known without the engine ------------------------------------ */
 
 static uint64_t now;
@@ -579,6 +661,87 @@ static dz_answer replay(size_t n)
     dz_answer answer = end(dz_replay(words(REPLAYED), octets(TRACE), n, own_domain, own_clock, magic, words(ANSWER)), CAN(DZ_OK) | CAN(DZ_REFUSED_BLOCK));
     must_be(answer, sound ? DZ_OK : DZ_REFUSED_BLOCK);
     expect(!sound || words(ANSWER)[0] == last, "another time than the last record's");
+    return answer;
+}
+
+static dz_answer capture_head(void)
+{
+    uint64_t form[DZ_FORM_WORDS];
+    int right = is_head(octets(CAPTURE), form);
+    begin("dz_capture_head");
+    may(FORM, DZ_FORM_WORDS);
+    dz_answer answer = must_be(end(dz_capture_head(octets(CAPTURE), words(FORM)), CAN(DZ_OK) | CAN(DZ_REFUSED_PCAP)), right ? DZ_OK : DZ_REFUSED_PCAP);
+    expect(!right || same_words(words(FORM), form, DZ_FORM_WORDS), "another form");
+    return answer;
+}
+
+/* The packet at an octet of the file. */
+static dz_answer capture_packet(size_t at)
+{
+    uint64_t packet[DZ_PACKET_WORDS];
+    int right = is_form(words(FORM)) && is_packet(words(FORM), octets(CAPTURE) + at, packet);
+    begin("dz_capture_packet");
+    may(PACKET, DZ_PACKET_WORDS);
+    dz_answer answer = end(dz_capture_packet(words(FORM), octets(CAPTURE) + at, words(PACKET)), CAN(DZ_OK) | CAN(DZ_REFUSED_PCAP));
+    must_be(answer, right ? DZ_OK : DZ_REFUSED_PCAP);
+    expect(!right || same_words(words(PACKET), packet, DZ_PACKET_WORDS), "another packet");
+    return answer;
+}
+
+/* The number that recording a frame must give. */
+static dz_answer frame_answer(uint64_t port, uint64_t t, size_t n)
+{
+    return is_ptp(octets(FRAME), n) ? recording_answer(port, t, n - DZ_FRAME_HEAD_OCTETS) : DZ_OK;
+}
+
+static dz_answer capture_record(uint64_t port, uint64_t t, size_t n)
+{
+    dz_answer right = frame_answer(port, t, n);
+    begin("dz_capture_record");
+    if (is_ptp(octets(FRAME), n)) may(RECORDING, DZ_RECORDING_WORDS), may(OPEN, DZ_BLOCK_OCTETS / 8), may(BLOCK, DZ_BLOCK_OCTETS / 8);
+    may(ANSWER, 1);
+    dz_answer answer = dz_capture_record(words(RECORDING), octets(OPEN), port, t, octets(FRAME), n, octets(BLOCK), words(ANSWER));
+    return must_be(end(answer, CAN(DZ_OK) | CAN(DZ_REFUSED_PORT) | CAN(DZ_REFUSED_LONG) | CAN(DZ_REFUSED_BACKWARD) | CAN(DZ_REFUSED_MANY)), right);
+}
+
+static dz_answer import(size_t room, uint64_t port, size_t n)
+{
+    begin("dz_import");
+    changeable[IMPORTED] = octets(IMPORTED) + room, may(ANSWER, 1);
+    dz_answer answer = dz_import(octets(IMPORTED), room, port, octets(CAPTURE), n, words(ANSWER));
+    return end(answer, CAN(DZ_OK) | CAN(DZ_REFUSED_PCAP) | CAN(DZ_REFUSED_PORT) | CAN(DZ_REFUSED_LONG) | CAN(DZ_REFUSED_BACKWARD) | CAN(DZ_REFUSED_ROOM));
+}
+
+static dz_answer export(size_t room, size_t n)
+{
+    begin("dz_export");
+    changeable[CAPTURE] = octets(CAPTURE) + room, may(ANSWER, 1);
+    dz_answer answer = dz_export(octets(CAPTURE), room, octets(TRACE), n, words(ANSWER));
+    return end(answer, CAN(DZ_OK) | CAN(DZ_REFUSED_BLOCK) | CAN(DZ_REFUSED_EXPORT) | CAN(DZ_REFUSED_ROOM));
+}
+
+static void capture_begin(void)
+{
+    begin("dz_capture_begin");
+    changeable[PACKETS] = octets(PACKETS) + DZ_CAPTURE_HEAD_OCTETS;
+    end(dz_capture_begin(octets(PACKETS)), CAN(DZ_OK));
+}
+
+/* A block of the trace, or so many octets from its first on. */
+static dz_answer capture_block(size_t block, size_t n)
+{
+    const uint8_t *b = octets(TRACE) + block;
+    uint64_t reader[DZ_READER_WORDS], *w = words(EXPORTER), port = w[DZ_EXPORTER_PORT];
+    reader[DZ_READER_NEXT] = w[DZ_EXPORTER_NEXT];
+    reader[DZ_READER_LAST] = w[DZ_EXPORTER_LAST];
+    int sound = is_sound(b, n, reader);
+    if (sound && port == 0) port = first_port(b);
+    dz_answer right = !sound ? DZ_REFUSED_BLOCK : is_writable(b, port) ? DZ_OK : DZ_REFUSED_EXPORT;
+    begin("dz_capture_block");
+    may(EXPORTER, DZ_EXPORTER_WORDS), changeable[PACKETS] = octets(PACKETS) + DZ_PACKETS_OCTETS, may(ANSWER, 1);
+    dz_answer answer = end(dz_capture_block(w, b, n, octets(PACKETS), words(ANSWER)), CAN(DZ_OK) | CAN(DZ_REFUSED_BLOCK) | CAN(DZ_REFUSED_EXPORT));
+    must_be(answer, right);
+    expect(answer != DZ_OK || (w[DZ_EXPORTER_NEXT] == reader[DZ_READER_NEXT] && w[DZ_EXPORTER_LAST] == reader[DZ_READER_LAST] && w[DZ_EXPORTER_PORT] == port), "other words of an exporter");
     return answer;
 }
 
@@ -1072,7 +1235,7 @@ static void expect_closed(int closed)
 }
 
 /* A message that was recorded stands behind those of the open block; where it does not fit, it is the first of a new one, and the old one has come out. */
-static void expect_recorded(uint64_t port, uint64_t t, size_t n)
+static void expect_recorded(uint64_t port, uint64_t t, const uint8_t *message, size_t n)
 {
     const uint64_t *w = words(RECORDING), *was = words_before(RECORDING);
     int fitted = has_place(was[DZ_RECORDING_END], n);
@@ -1084,7 +1247,7 @@ static void expect_recorded(uint64_t port, uint64_t t, size_t n)
     put(right + at, 8, t);
     put(right + at + PORT_AT, 1, port);
     put(right + at + LENGTH_AT, 2, n);
-    memcpy(right + at + MESSAGE_AT, octets(FRAME), n);
+    memcpy(right + at + MESSAGE_AT, message, n);
     expect(!memcmp(octets(OPEN), right, sizeof right), "another open block");
     expect(w[DZ_RECORDING_NEXT] == was[DZ_RECORDING_NEXT] + !fitted && w[DZ_RECORDING_LAST] == t && w[DZ_RECORDING_END] == at + MESSAGE_AT + n, "other words of a recording");
     expect_closed(!fitted && is_open(was[DZ_RECORDING_END]));
@@ -1093,7 +1256,7 @@ static void expect_recorded(uint64_t port, uint64_t t, size_t n)
 static dz_answer record_frame(uint64_t port, uint64_t t, size_t n)
 {
     dz_answer answer = trace_record(port, t, n);
-    if (answer == DZ_OK) expect_recorded(port, t, n);
+    if (answer == DZ_OK) expect_recorded(port, t, octets(FRAME), n);
     return answer;
 }
 
@@ -1325,6 +1488,330 @@ static void try_traces(void)
         expect_replay(fresh, one_in(4) ? damage_trace(damaged) : damaged);
         try_block(below(n / DZ_BLOCK_OCTETS + 1) * DZ_BLOCK_OCTETS);
     }
+}
+
+/* An Ethernet frame, and how many octets it has: mostly of PTP, now and then with a message of a length at an edge; else of another type, or too short for a head. */
+static size_t any_ethernet(void)
+{
+    static const size_t edges[] = {0, 1, DZ_TRACE_LONGEST - 1, DZ_TRACE_LONGEST, DZ_TRACE_LONGEST + 1, OCTETS - DZ_FRAME_HEAD_OCTETS};
+    static const uint16_t others[] = {0x0800, 0x8100, PTP - 1, PTP + 1, 0xF788};
+    size_t n = any_frame(FOLLOW, one_in(4) ? any_type() : DZ_ANNOUNCE);
+    memcpy(octets(FRAME) + DZ_FRAME_HEAD_OCTETS, octets(FOLLOW), n);
+    put(octets(FRAME) + TYPE_AT, 2, one_in(6) ? others[below(sizeof others / sizeof *others)] : PTP);
+    if (one_in(12)) return below(DZ_FRAME_HEAD_OCTETS + 1);
+    return DZ_FRAME_HEAD_OCTETS + (one_in(6) ? edges[below(sizeof edges / sizeof *edges)] : n);
+}
+
+/* A frame that is recorded has its message behind the others; one that is passed over has changed nothing, and no block has come out. */
+static void expect_frame(uint64_t port, uint64_t t, size_t n)
+{
+    if (capture_record(port, t, n) != DZ_OK) return;
+    if (is_ptp(octets(FRAME), n)) expect_recorded(port, t, octets(FRAME) + DZ_FRAME_HEAD_OCTETS, n - DZ_FRAME_HEAD_OCTETS);
+    else expect(words(ANSWER)[0] == 0, "a block has come out of a frame that is passed over");
+}
+
+/* Frames recorded under words of every kind. */
+static void try_frames(void)
+{
+    any_recording();
+    for (uint64_t n = 1 + below(8); n > 0; n--) {
+        uint64_t port = any_port(), t = any_recorded_time();
+        expect_frame(port, t, any_ethernet());
+    }
+}
+
+/* A capture in CAPTURE: its form, where its packets begin, and how many octets it has. */
+enum { MOST_PACKETS = 40 };
+struct file {
+    uint64_t form[DZ_FORM_WORDS];
+    size_t packets[MOST_PACKETS], count, length;
+};
+
+static void begin_file(struct file *x)
+{
+    uint8_t *head = octets(CAPTURE);
+    x->form[DZ_FORM_LITTLE] = below(2);
+    x->form[DZ_FORM_UNIT] = one_in(2) ? 1 : 1000;
+    x->count = 0;
+    x->length = DZ_CAPTURE_HEAD_OCTETS;
+    fill(words(CAPTURE), DZ_CAPTURE_HEAD_OCTETS / 8); /* of which zone, accuracy and snapshot length stay */
+    put_in(x->form, head, 4, x->form[DZ_FORM_UNIT] == 1 ? nano_magic : micro_magic);
+    put_in(x->form, head + VERSION_AT, 2, 2);
+    put_in(x->form, head + REVISION_AT, 2, 4);
+    put_in(x->form, head + LINK_TYPE_AT, 4, 1);
+}
+
+static void add_packet(struct file *x, uint64_t t)
+{
+    uint8_t *head = octets(CAPTURE) + x->length;
+    size_t n = any_ethernet();
+    put_in(x->form, head, 4, t / second_nanos);
+    put_in(x->form, head + FRACTION_AT, 4, t % second_nanos / x->form[DZ_FORM_UNIT]);
+    put_in(x->form, head + STORED_AT, 4, n);
+    put_in(x->form, head + ORIGINAL_AT, 4, one_in(16) ? below(n + 1) : n);
+    memcpy(head + DZ_PACKET_HEAD_OCTETS, octets(FRAME), n);
+    x->packets[x->count++] = x->length;
+    x->length += DZ_PACKET_HEAD_OCTETS + n;
+}
+
+/* A capture without a fault; what recording refuses may be in it. Its times mostly go on, and may come to the last second that there is. */
+static void any_capture(struct file *x)
+{
+    uint64_t t = one_in(8) ? last_second * second_nanos : below(2 * second_nanos);
+    begin_file(x);
+    for (uint64_t left = below(MOST_PACKETS + 1); left > 0 && x->length <= CAPTURE_OCTETS - DZ_PACKET_HEAD_OCTETS - OCTETS; left--) {
+        if (one_in(64)) t -= t < 2000 ? 0 : 1000 + below(1000);
+        else if (one_in(2)) t += below(20000000);
+        add_packet(x, t);
+    }
+}
+
+/* Changes a number of a file. */
+static void change_number_in(const struct file *x, size_t at, size_t n)
+{
+    uint8_t *o = octets(CAPTURE) + at;
+    put_in(x->form, o, n, nearby(get_in(x->form, o, n)));
+}
+
+/* Damages a capture in one way. */
+static void damage_capture(struct file *x)
+{
+    static const size_t heads[][2] = {{0, 4}, {VERSION_AT, 2}, {REVISION_AT, 2}, {LINK_TYPE_AT, 4}};
+    const size_t *field = heads[below(sizeof heads / sizeof *heads)];
+    size_t packet = x->count ? x->packets[below(x->count)] : 0; /* the head stands for one where there is none */
+    switch (below(8)) {
+    case 0: change_number_in(x, field[0], field[1]); break;
+    case 1: x->length -= below(one_in(2) && x->length > 2 ? 3 : x->length + 1); break;
+    case 2: x->length += below(CAPTURE_OCTETS - x->length > 40 ? 40 : 1); break;
+    case 3: put_in(x->form, octets(CAPTURE) + packet + FRACTION_AT, 4, second_nanos / x->form[DZ_FORM_UNIT] - below(2)); break;
+    case 4: change_number_in(x, packet + STORED_AT, 4); break;
+    case 5: change_number_in(x, packet + ORIGINAL_AT, 4); break;
+    case 6: change_octet(octets(CAPTURE), DZ_CAPTURE_HEAD_OCTETS); break;
+    default: change_octet(octets(CAPTURE), x->length ? x->length : 1);
+    }
+}
+
+/* Heads of packets under forms of every kind. */
+static void try_packet_heads(const struct file *x)
+{
+    static const uint64_t units[] = {0, 1, 2, 999, 1000, 1001};
+    capture_head();
+    for (size_t i = 0; i < x->count; i++) {
+        memcpy(words(FORM), x->form, sizeof x->form);
+        if (one_in(4)) words(FORM)[DZ_FORM_LITTLE] = one_in(2) ? below(3) : edge();
+        if (one_in(4)) words(FORM)[DZ_FORM_UNIT] = one_in(2) ? edge() : units[below(sizeof units / sizeof *units)];
+        capture_packet(x->packets[i]);
+    }
+}
+
+/* The longest trace that a capture can give: every second packet of half a block closes one. */
+static uint8_t streamed[CAPTURE_OCTETS * 2 + DZ_BLOCK_OCTETS];
+
+/* Records all packets of a file, one after another, until one is refused: how many octets the trace has. */
+static dz_answer stream_packets(const uint64_t form[DZ_FORM_WORDS], uint64_t port, size_t n, size_t *length)
+{
+    uint64_t recording[DZ_RECORDING_WORDS] = {0}, packet[DZ_PACKET_WORDS], closed = 0;
+    uint8_t open[DZ_BLOCK_OCTETS];
+    *length = 0;
+    for (size_t at = DZ_CAPTURE_HEAD_OCTETS; at < n; at += DZ_PACKET_HEAD_OCTETS + packet[DZ_K_STORED]) {
+        expect(dz_capture_packet(form, octets(CAPTURE) + at, packet) == DZ_OK, "a packet of a capture that is none");
+        dz_answer answer = dz_capture_record(recording, open, port, packet[DZ_K_TIME], octets(CAPTURE) + at + DZ_PACKET_HEAD_OCTETS, packet[DZ_K_STORED], streamed + *length, &closed);
+        if (answer != DZ_OK) return answer;
+        if (closed) *length += DZ_BLOCK_OCTETS;
+    }
+    closed = 0;
+    dz_trace_finish(recording, open, streamed + *length, &closed);
+    if (closed) *length += DZ_BLOCK_OCTETS;
+    return DZ_OK;
+}
+
+/* What importing must answer, were there room enough, by the calls that go through a file packet by packet. */
+static dz_answer stream(uint64_t port, size_t n, size_t *length)
+{
+    uint64_t form[DZ_FORM_WORDS];
+    *length = 0;
+    if (!is_capture(octets(CAPTURE), n)) return DZ_REFUSED_PCAP;
+    if (!is_port(port)) return DZ_REFUSED_PORT;
+    expect(dz_capture_head(octets(CAPTURE), form) == DZ_OK, "a head of a capture that is none");
+    return stream_packets(form, port, n, length);
+}
+
+/* Some room: as much as is needed, an octet less, or any. */
+static size_t any_room(size_t needed, size_t most)
+{
+    size_t room = one_in(4) ? below(most + 1) : one_in(4) ? needed - (needed > 0) : one_in(2) ? needed : most;
+    return room < most ? room : most;
+}
+
+/* A capture gives the trace that its packets give one after another, or their first refusal; that trace can be replayed. */
+static dz_answer try_import(uint64_t port, size_t n)
+{
+    size_t length;
+    uint64_t last;
+    dz_answer right = stream(port, n, &length);
+    size_t room = any_room(length, TRACE_OCTETS);
+    if (must_be(import(room, port, n), right == DZ_OK && length > room ? DZ_REFUSED_ROOM : right) != DZ_OK) return right;
+    expect(words(ANSWER)[0] == length && !memcmp(octets(IMPORTED), streamed, length), "another trace than packet by packet");
+    expect(!memcmp(octets(IMPORTED) + length, (const uint8_t *)words_before(IMPORTED) + length, room - length), "octets past the trace have changed");
+    expect(is_trace(octets(IMPORTED), length, &last), "a capture gives a trace that cannot be replayed");
+    return right;
+}
+
+/* What exporting must answer, were there room enough. */
+static dz_answer export_answer(size_t n)
+{
+    uint64_t last;
+    if (!is_trace(octets(TRACE), n, &last)) return DZ_REFUSED_BLOCK;
+    for (size_t at = 0; at < n; at += DZ_BLOCK_OCTETS)
+        if (!is_writable(octets(TRACE) + at, first_port(octets(TRACE)))) return DZ_REFUSED_EXPORT;
+    return DZ_OK;
+}
+
+/* The packet of a record. */
+static size_t put_packet(uint8_t *o, uint64_t t, const uint8_t *message, size_t n)
+{
+    memset(o, 0, BEFORE);
+    put(o, 4, t / second_nanos);
+    put(o + FRACTION_AT, 4, t % second_nanos);
+    put(o + STORED_AT, 4, DZ_FRAME_HEAD_OCTETS + n);
+    put(o + ORIGINAL_AT, 4, DZ_FRAME_HEAD_OCTETS + n);
+    put(o + DZ_PACKET_HEAD_OCTETS + TYPE_AT, 2, PTP);
+    memcpy(o + BEFORE, message, n);
+    return BEFORE + n;
+}
+
+/* The packets of a sound block: how many octets they have. */
+static size_t put_packets(uint8_t *o, const uint8_t *b)
+{
+    size_t n = 0, at = RECORDS_AT;
+    for (uint64_t left = get(b + COUNT_AT, 2); left > 0; left--, at = record_end(b, at)) n += put_packet(o + n, get(b + at, 8), b + at + MESSAGE_AT, record_end(b, at) - at - MESSAGE_AT);
+    return n;
+}
+
+/* A block gives its packets, and no other octet changes. */
+static void expect_packets(size_t block, size_t n)
+{
+    uint8_t right[PACKETS_WORDS * 8];
+    if (capture_block(block, n) != DZ_OK) return;
+    memcpy(right, words_before(PACKETS), sizeof right);
+    expect(words(ANSWER)[0] == put_packets(right, octets(TRACE) + block), "another length of a block's packets");
+    expect(!memcmp(octets(PACKETS), right, sizeof right), "other packets");
+}
+
+/* A trace gives the capture that its head and its blocks give one after another. */
+static void expect_capture(size_t n, size_t length)
+{
+    static const uint8_t head[DZ_CAPTURE_HEAD_OCTETS] = {0xa1, 0xb2, 0x3c, 0x4d, 0, 2, 0, 4, 0, 0, 0, 0, 0, 0, 0, 0, 0, 0, 0xff, 0xff, 0, 0, 0, 1};
+    size_t at = DZ_CAPTURE_HEAD_OCTETS;
+    capture_begin();
+    expect(!memcmp(octets(PACKETS), head, sizeof head) && !memcmp(octets(CAPTURE), head, sizeof head), "another head");
+    memset(words(EXPORTER), 0, DZ_EXPORTER_WORDS * 8);
+    for (size_t block = 0; block < n; block += DZ_BLOCK_OCTETS, at += words(ANSWER)[0]) {
+        expect_packets(block, DZ_BLOCK_OCTETS);
+        expect(!memcmp(octets(CAPTURE) + at, octets(PACKETS), words(ANSWER)[0]), "another capture than block by block");
+    }
+    expect(at == length, "another length than block by block");
+}
+
+/* Where the record behind one stands that ends at an octet of a trace: there, or in the next block. */
+static size_t next_record(const uint8_t *trace, size_t at)
+{
+    size_t place = at % DZ_BLOCK_OCTETS;
+    return place && record_end(trace + at - place, place) ? at : at - place + (place ? DZ_BLOCK_OCTETS : 0) + RECORDS_AT;
+}
+
+/* Whether two traces have the same records, of some octets each. */
+static int same_records(const uint8_t *a, size_t n, const uint8_t *b, size_t m)
+{
+    size_t i = next_record(a, 0), k = next_record(b, 0);
+    while (i < n && k < m) {
+        size_t length = MESSAGE_AT + get(a + i + LENGTH_AT, 2);
+        if (get(b + k + LENGTH_AT, 2) + MESSAGE_AT != length || memcmp(a + i, b + k, length)) return 0;
+        i = next_record(a, i + length);
+        k = next_record(b, k + length);
+    }
+    return i >= n && k >= m;
+}
+
+/* A trace of one port in TRACE: that of a capture, as it is or with its numbers moved on. */
+static size_t one_port_trace(void)
+{
+    struct file x;
+    size_t length;
+    any_capture(&x);
+    uint64_t port = 1 + below(DZ_PORTS);
+    if (stream(port, x.length, &length) != DZ_OK || length > TRACE_OCTETS) length = 0;
+    memcpy(octets(TRACE), streamed, length);
+    for (size_t at = length; one_in(2) && at > 0; at -= DZ_BLOCK_OCTETS) {
+        uint8_t *b = octets(TRACE) + at - DZ_BLOCK_OCTETS;
+        put(b + NUMBER_AT, 4, get(b + NUMBER_AT, 4) + 7);
+        seal(b);
+    }
+    return length;
+}
+
+/* Moves the last record of a trace to the last time that a capture can hold, or one behind it; or to another port. */
+static void change_last_record(size_t n)
+{
+    uint8_t *b = octets(TRACE) + n - DZ_BLOCK_OCTETS;
+    size_t at = RECORDS_AT;
+    while (record_end(b, at) && record_end(b, record_end(b, at))) at = record_end(b, at);
+    if (one_in(2)) b[at + PORT_AT] = (uint8_t)(1 + below(DZ_PORTS));
+    else put(b + at, 8, (last_second + 1) * second_nanos - below(2));
+    if (at == RECORDS_AT) memcpy(b + FIRST_TIME_AT, b + at, 8);
+    seal(b);
+}
+
+/* A trace to be exported: of one port or of several, sound or damaged. */
+static size_t any_exported(void)
+{
+    static uint64_t live[DZ_PORTS_WORDS];
+    size_t n = one_in(6) ? any_trace(live) : one_port_trace();
+    if (n > 0 && one_in(4)) change_last_record(n);
+    return one_in(4) ? damage_trace(n) : n;
+}
+
+/* A block under words of every kind. */
+static void try_packets(size_t block)
+{
+    static const size_t lengths[] = {0, 1, DZ_BLOCK_OCTETS - 1, DZ_BLOCK_OCTETS + 1};
+    const uint8_t *b = octets(TRACE) + block;
+    uint64_t *w = words(EXPORTER);
+    w[DZ_EXPORTER_NEXT] = one_in(2) ? 0 : nearby(get(b + NUMBER_AT, 4));
+    w[DZ_EXPORTER_LAST] = one_in(2) ? 0 : nearby(get(b + FIRST_TIME_AT, 8));
+    w[DZ_EXPORTER_PORT] = one_in(3) ? 0 : one_in(4) ? edge() : first_port(b) + (one_in(4) ? (uint64_t)1 << (8 + below(56)) : 0);
+    size_t n = one_in(8) ? lengths[below(sizeof lengths / sizeof *lengths)] : DZ_BLOCK_OCTETS;
+    expect_packets(block, n <= TRACE_OCTETS - block ? n : 0);
+}
+
+/* An export has the records of its trace, and read again under its own port it gives them back. */
+static void try_exports(void)
+{
+    size_t n = any_exported(), length = DZ_CAPTURE_HEAD_OCTETS;
+    uint8_t packets[PACKETS_WORDS * 8];
+    dz_answer right = export_answer(n);
+    for (size_t at = 0; right == DZ_OK && at < n; at += DZ_BLOCK_OCTETS) length += put_packets(packets, octets(TRACE) + at);
+    try_packets(below(n / DZ_BLOCK_OCTETS + 1) * DZ_BLOCK_OCTETS % TRACE_OCTETS);
+    size_t room = any_room(length, CAPTURE_OCTETS);
+    if (must_be(export(room, n), right == DZ_OK && length > room ? DZ_REFUSED_ROOM : right) != DZ_OK) return;
+    expect(words(ANSWER)[0] == length, "another length of a capture");
+    expect(!memcmp(octets(CAPTURE) + length, (const uint8_t *)words_before(CAPTURE) + length, room - length), "octets past the capture have changed");
+    expect_capture(n, length);
+    must_be(try_import(n ? first_port(octets(TRACE)) : 1, length), DZ_OK);
+    size_t again;
+    must_be(stream(n ? first_port(octets(TRACE)) : 1, length, &again), DZ_OK);
+    expect(same_records(octets(TRACE), n, streamed, again), "an export that is read again gives other records");
+}
+
+/* Captures, without a fault and with some. */
+static void try_captures(void)
+{
+    struct file x;
+    any_capture(&x);
+    for (uint64_t left = one_in(2) ? 0 : 1 + below(2); left > 0; left--) damage_capture(&x);
+    try_packet_heads(&x);
+    uint64_t port = any_port();
+    try_import(port, x.length);
 }
 
 /* A port's slots, asked in each way that there is, tell the same. */
@@ -1725,7 +2212,7 @@ static void try_measuring(void)
 
 /* ---- all of them --------------------------------------------------------------------------------------------------------------- */
 
-static void (*const tries[])(void) = {try_announces, try_announces, try_announces, try_bursts, try_bursts, try_recording, try_traces, try_slots, try_intervals, try_best, try_deciding_all,
+static void (*const tries[])(void) = {try_announces, try_announces, try_announces, try_bursts, try_bursts, try_recording, try_traces, try_frames, try_captures, try_exports, try_slots, try_intervals, try_best, try_deciding_all,
     try_deciding, try_ranking, try_comparing, try_reading, try_origin, try_writing, try_writing_links, try_links, try_links, try_measuring};
 
 /* One of the tries; most are the one that the kind of history is about. */
@@ -1757,10 +2244,10 @@ int main(int count, char **arguments)
     fill(memory, sizeof memory / 8);
     for (uint64_t which = 0; calls < most; which++)
         for (begin_history(which); calls < most && calls < (which + 1) * history; ) try_one();
-    printf("seed %" PRIu64 ": %" PRIu64 " calls, their answers %016" PRIx64 ", of refusals 1 to 20:", seed, calls, digest);
-    for (int i = 1; i <= DZ_REFUSED_BLOCK; i++) printf(" %" PRIu64, answers[i]);
+    printf("seed %" PRIu64 ": %" PRIu64 " calls, their answers %016" PRIx64 ", of refusals 1 to 22:", seed, calls, digest);
+    for (int i = 1; i <= DZ_REFUSED_EXPORT; i++) printf(" %" PRIu64, answers[i]);
     printf("\n");
     calling = "all calls";
-    for (int i = 1; i <= DZ_REFUSED_BLOCK; i++) expect(answers[i] > 0 || most < enough, "a number was never given");
+    for (int i = 1; i <= DZ_REFUSED_EXPORT; i++) expect(answers[i] > 0 || most < enough, "a number was never given");
     return 0;
 }

@@ -47,6 +47,7 @@ EXCHANGE = STAMPS | {
     "corrections.follow": "DZ_E_FOLLOW", "corrections.resp": "DZ_E_RESP", "latencies.mtx": "DZ_E_MASTER_TX", "latencies.mrx": "DZ_E_MASTER_RX",
     "latencies.stx": "DZ_E_SLAVE_TX", "latencies.srx": "DZ_E_SLAVE_RX", "asymmetry": "DZ_E_ASYMMETRY"}
 READER = {"next": "DZ_READER_NEXT", "last": "DZ_READER_LAST"}
+FORM = {"little": "DZ_FORM_LITTLE", "unit": "DZ_FORM_UNIT"}
 
 
 def of(variable, fields):
@@ -81,6 +82,7 @@ PACKED = [
     ("trace_words.nextWords", of("Found.p", {
         "placeWords": "DZ_FOUND", "time": "DZ_N_TIME", "port": "DZ_N_PORT", "at": "DZ_N_AT", "length": "DZ_N_LENGTH", "end": "DZ_N_END"}), "DZ_FOUND_ENTRY_WORDS"),
     ("playback.readerWords", of("r", READER), "DZ_READER_WORDS"),
+    ("capture_words.formWords", of("f", FORM), "DZ_FORM_WORDS"),
 ]
 
 # What a definition takes out of words.
@@ -91,13 +93,20 @@ UNPACKED = [
     ("candidate_words.setOf", SET, "DZ_SET_WORDS"),
     ("exchange_words.exchangeOf", EXCHANGE, "DZ_EXCHANGE_WORDS"),
     ("playback.readerOf", READER, "DZ_READER_WORDS"),
+    ("capture_words.formBy", FORM, "DZ_FORM_WORDS"),
+]
+
+# Words that a definition lists one by one, each named by the definition or the field that it is; then how many there are.
+LISTED = [
+    ("capture_words.packetAfter", {"timeOf": "DZ_K_TIME", "storedOf": "DZ_K_STORED"}, "DZ_PACKET_WORDS"),
+    ("exporting.readerBehind", {"next": "DZ_EXPORTER_NEXT", "last": "DZ_EXPORTER_LAST", "portBehind": "DZ_EXPORTER_PORT"}, "DZ_EXPORTER_WORDS"),
 ]
 
 # The numbers of cases.
 NUMBERS = [
     ("refusal.numberOf", {name: f"DZ_REFUSED_{name.upper()}" for name in (
         "Short", "Version", "Type", "Length", "Stamp", "Tlv", "WrBad", "Port", "Domain", "Own", "Backward", "Stale", "Full", "Range", "Unranked",
-        "Room", "Many", "Field", "Long", "Block")}),
+        "Room", "Many", "Field", "Long", "Block", "Pcap", "Export")}),
     ("election.codeOf", {name: f"DZ_{name}" for name in ("M1", "M2", "M3", "S1", "S2", "P1", "P2")}),
     ("candidate_words.comparisonNumber", {
         "ABetter": "DZ_A_BETTER", "BBetter": "DZ_B_BETTER", "ABetterByTopology": "DZ_A_BETTER_BY_TOPOLOGY",
@@ -123,6 +132,7 @@ ROWS = [
     ("recording.nextOf", ["DZ_RECORDING_NEXT"]),
     ("recording.lastOf", ["DZ_RECORDING_LAST"]),
     ("recording.endOf", ["DZ_RECORDING_END"]),
+    ("exporting.portBehind", ["DZ_EXPORTER_PORT", "DZ_EXPORTER_PORT"]),
 ]
 
 # The numbers that a definition tests for, or is.
@@ -132,6 +142,9 @@ TESTED = [
     ("bursts.isMany", ["DZ_BURST_MOST"]),
     ("block.blockOctets", ["DZ_BLOCK_OCTETS"]),
     ("block.longest", ["DZ_TRACE_LONGEST"]),
+    ("pcap.fileHead", ["DZ_CAPTURE_HEAD_OCTETS"]),
+    ("pcap.packetHead", ["DZ_PACKET_HEAD_OCTETS"]),
+    ("importing.frameHead", ["DZ_FRAME_HEAD_OCTETS"]),
 ]
 
 # Enumerators of which no definition speaks: no refusal, no config, what follows from another, the length of a row, which a call's parameter has, and
@@ -402,6 +415,22 @@ def faults_of_places(header, title, table, count, unpacks):
         yield f"{count} is {header.value(count)}, but {title} has {', '.join(map(str, sorted(lengths)))} words"
 
 
+def words_in(term):
+    """The names of the words of the first list that stands in a term."""
+    if not isinstance(term, (tuple, list)):
+        return []
+    if term[:2] == ("operator", "∷"):
+        word = term[2]
+        return [word[2] if word[0] == "field" else word[1][1] if word[0] == "call" else word[1]] + words_in(term[3])
+    return next((found for part in term if (found := words_in(part))), [])
+
+
+def faults_of_lists(header, title, table, count):
+    found = words_in(definition_of(title).equations[0][1])
+    if found != sorted(table, key=lambda word: header.value(table[word])) or len(found) != header.value(count):
+        yield f"{stand(header, [*table.values(), count])}, but {title} lists {', '.join(found)}"
+
+
 def number_of(term, near):
     """The number that a term is, written out or by a name."""
     known = resolve(term[1], near)
@@ -451,7 +480,7 @@ def faults_of_rows(header, title, names):
 
 def faults_of_names(header):
     """Enumerators that nothing above speaks of."""
-    told = {name for _, table, *count in PACKED + UNPACKED + NUMBERS for name in [*table.values(), *count]} | NOT_DEFINED
+    told = {name for _, table, *count in PACKED + UNPACKED + LISTED + NUMBERS for name in [*table.values(), *count]} | NOT_DEFINED
     told |= {name for _, names in ROWS + TESTED for name in names}
     for enum, names in header.enums.items():
         if enum not in NOT_DEFINED_ENUMS:
@@ -531,11 +560,12 @@ def main():
     header = Header(pathlib.Path(sys.argv[1]) if len(sys.argv) > 1 else ROOT / "include/dzervolat.h")
     faults = [fault for title, table, count in PACKED for fault in faults_of_places(header, title, table, count, False)]
     faults += [fault for title, table, count in UNPACKED for fault in faults_of_places(header, title, table, count, True)]
+    faults += [fault for title, table, count in LISTED for fault in faults_of_lists(header, title, table, count)]
     faults += [fault for title, table in NUMBERS for fault in faults_of_numbers(header, title, table)]
     faults += [fault for title, names in ROWS for fault in faults_of_rows(header, title, names)]
     faults += [fault for title, names in TESTED for fault in faults_of_tests(header, title, names)]
     faults += [*faults_of_names(header), *faults_of_calls(header)]
-    fields = sum(len(table) for _, table, *_ in PACKED + UNPACKED + ROWS)
+    fields = sum(len(table) for _, table, *_ in PACKED + UNPACKED + LISTED + ROWS)
     numbers = sum(len(table) for _, table in NUMBERS)
     print(*faults, sep="\n", end="\n" if faults else "")
     print(f"{fields} fields, {numbers} numbers and {len(header.calls)} calls of the header, {len(faults)} differ")

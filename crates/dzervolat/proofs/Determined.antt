@@ -112,3 +112,25 @@ dz-replay-block-determined κs a x y v w p q = (p .0 ∙ sym (q .0), λ i. ((p .
 
 pub dz-replay-determined : Fixes its.tracing.dz_replay.ended its.tracing.dz_replay.Reads.Post
 dz-replay-determined κs a x y v w p q = (p .0 ∙ sym (q .0), λ i. ((p .1 .0 ∙ sym (q .1 .0)) i, (tt, (tt, (tt, (tt, ((p .1 .1 ∙ sym (q .1 .1)) i, w .1 .1 .1 .1 .1 .1)))))))
+
+pub dz-import-determined : Fixes its.capturing.dz_import.ended its.capturing.dz_import.Reads.Post
+dz-import-determined κs a x y v w p q = (p .0 ∙ sym (q .0), λ i. ((p .1 .0 ∙ sym (q .1 .0)) i, (tt, (tt, ((p .1 .1 ∙ sym (q .1 .1)) i, w .1 .1 .1 .1)))))
+
+pub dz-export-determined : Fixes its.capturing.dz_export.ended its.capturing.dz_export.Reads.Post
+dz-export-determined κs a x y v w p q = (p .0 ∙ sym (q .0), λ i. ((p .1 .0 ∙ sym (q .1 .0)) i, (tt, ((p .1 .1 ∙ sym (q .1 .1)) i, w .1 .1 .1))))
+
+pub dz-capture-head-determined : Fixes its.capturing.dz_capture_head.ended its.capturing.dz_capture_head.Reads.Post
+dz-capture-head-determined κs a x y v w p q = (p .0 ∙ sym (q .0), λ i. (tt, ((p .1 ∙ sym (q .1)) i, w .1 .1)))
+
+pub dz-capture-packet-determined : Fixes its.capturing.dz_capture_packet.ended its.capturing.dz_capture_packet.Reads.Post
+dz-capture-packet-determined κs a x y v w p q = (p .0 ∙ sym (q .0), λ i. (tt, (tt, ((p .1 ∙ sym (q .1)) i, w .1 .1 .1))))
+
+pub dz-capture-record-determined : Fixes its.capturing.dz_capture_record.ended its.capturing.dz_capture_record.Reads.Post
+dz-capture-record-determined κs a x y v w p q =
+    (p .0 ∙ sym (q .0), λ i. ((p .1 .0 ∙ sym (q .1 .0)) i, ((p .1 .1 .0 ∙ sym (q .1 .1 .0)) i, (tt, (tt, (tt, ((p .1 .1 .1 .0 ∙ sym (q .1 .1 .1 .0)) i, ((p .1 .1 .1 .1 ∙ sym (q .1 .1 .1 .1)) i, w .1 .1 .1 .1 .1 .1 .1))))))))
+
+pub dz-capture-begin-determined : Fixes its.capturing.dz_capture_begin.ended its.capturing.dz_capture_begin.Reads.Post
+dz-capture-begin-determined κs a x y v w p q = (p .0 ∙ sym (q .0), λ i. ((p .1 ∙ sym (q .1)) i, w .1))
+
+pub dz-capture-block-determined : Fixes its.capturing.dz_capture_block.ended its.capturing.dz_capture_block.Reads.Post
+dz-capture-block-determined κs a x y v w p q = (p .0 ∙ sym (q .0), λ i. ((p .1 .0 ∙ sym (q .1 .0)) i, (tt, ((p .1 .1 .0 ∙ sym (q .1 .1 .0)) i, ((p .1 .1 .1 ∙ sym (q .1 .1 .1)) i, w .1 .1 .1 .1)))))

@@ -9,7 +9,7 @@ use lib.ListN.{length}
 use Rattle.refusal.specs.Choice.{pick, refuse}
 use Rattle.refusal.specs.Refusal.{codeOf}
 use Rattle.refusal.specs.declared.Refusal.{Refusal}
-use Rattle.refusal.specs.declared.Refusal.the-variants.{Port, Field, Backward, Many, Block}
+use Rattle.refusal.specs.declared.Refusal.the-variants.{Port, Field, Backward, Many, Block, Pcap}
 use Rattle.refusal.specs.declared.Outcome.{Outcome}
 use Rattle.refusal.specs.declared.Outcome.the-variants as outcome
 use Rattle.message.specs.declared.reading.Reading.{Reading}
@@ -26,7 +26,7 @@ use Rattle.message.specs.declared.fields.Message.{Message}
 use Rattle.message.specs.Reading.{by}
 use Rattle.writer.specs.declared.writing.Written.{Written}
 use Rattle.writer.specs.declared.writing.Written.the-variants as written
-use Rattle.writer.specs.Writing.{writeCheck, writeOf, bufferOf}
+use Rattle.writer.specs.Writing.{writeCheck, writeOf, bufferOf, lentBy as filledBy}
 use Rattle.wr_tlvs.specs.Built.{linkOctets}
 use Rattle.rank.specs.declared.Ranked.{Ranked}
 use Rattle.rank.specs.declared.Ranking.{Ranking}
@@ -271,3 +271,20 @@ pub block-left : (accepted : Bool) (before after : List ℕ)
 unfolding refuse
 block-left true before after h = absurd (h refl)
 block-left false before after h = refl
+
+-- ---- captures
+pub filled-left : (x : Written) (before after : List ℕ) → Left (writtenCode x) before (filledBy x before after)
+filled-left (written.Octets n) before after h = absurd (h refl)
+filled-left (written.Refused x) before after h = refl
+
+-- what a head that is not sound leaves
+pub head-left : (sound : Bool) (before after : List ℕ) → Left (codeOf (refuse (not sound) (outcome.Refused Pcap) outcome.Done)) before (pick sound after before)
+unfolding refuse
+head-left true before after h = absurd (h refl)
+head-left false before after h = refl
+
+-- what a frame leaves that is taken and refused; one that is passed over is not refused
+pub frame-left : (taken : Bool) (x : Outcome) (closed : Bool) (before after : List ℕ)
+    → Left (recordedCode (pick taken (answerBy x (toldBy closed)) recorded.Kept)) before (pick taken (lentBy x before after) before)
+frame-left true x closed before after h = lent-left x closed before after h
+frame-left false x closed before after h = refl

@@ -1,6 +1,6 @@
 -- A refusal leaves all that was lent: for every call of the C library, where the number returned is not 0, every word and octet that the call may
 -- change is at exit what it was at entry ("State, output buffers and input stay as they were."). What is lent to be read alone cannot change.
--- `dz_write_suffix`, `dz_trace_finish`, `dz_trace_walk` and `dz_version` refuse nothing.
+-- `dz_write_suffix`, `dz_trace_finish`, `dz_trace_walk`, `dz_capture_begin` and `dz_version` refuse nothing.
 use Prim.Native.Nat.{ℕ}
 use mathlib.Core.Bool.{not}
 use mathlib.Core.List.{List}
@@ -21,12 +21,16 @@ use Rattle.links.specs.Words.{takeAnswer, lookAnswer}
 use Rattle.recording.specs.Recording.{entryOf, lentBy, closes, recordCheck, recordedOf, openWith, wordsWith, outWith}
 use Rattle.playback.specs.Playback.{readerOf, accepts, isTrace, replayOf}
 use Rattle.trace_words.specs.Answers.{recordedCode}
+use Rattle.exporting.specs.Exporting.{exportOf, exportBlockOf}
+use Rattle.importing.specs.Importing.{isPtp, entryBy, frameRecorded, importOf}
+use Rattle.pcap.specs.File.{Frame}
+use Rattle.capture_words.specs.Captures.{tellsForm, isSound}
 use Rattle.words.specs.Words.{portOf}
 use Rattle.exchange_words.specs.Exchanges.{measuredOf}
 use Rattle.dzervolat.specs.Settings.{settings, linkSettings}
 use Rattle.dzervolat.specs.Ranking.{rankedRun, mergedLists, decidedBy, electedBy, parentIn}
 use Rattle.dzervolat.specs.Writing.{wordsWritten, linkWritten}
-use Rattle.dzervolat.proofs.Left.{Left, left-by, asked-left, block-left, burst-left, carried-left, compared-left, decided-left, decisions-left, interval-left, leader-left, lent-left, looked-left, measured-left, origin-left, ranking-left, read-left, recorded-left, replayed-left, setting-left, signaling-left, status-left, step-left, suffix-left, tail-left, take-left, taken-left, tlv-left, trace-left, walked-left, words-left, written-left}
+use Rattle.dzervolat.proofs.Left.{Left, left-by, asked-left, block-left, burst-left, carried-left, compared-left, decided-left, decisions-left, filled-left, frame-left, head-left, interval-left, leader-left, lent-left, looked-left, measured-left, origin-left, ranking-left, read-left, recorded-left, replayed-left, setting-left, signaling-left, status-left, step-left, suffix-left, tail-left, take-left, taken-left, tlv-left, trace-left, walked-left, words-left, written-left}
 use Rattle.dzervolat.proofs.records.dz_take.Reads as dz-take
 use Rattle.dzervolat.proofs.records.dz_take.Kinds as dz-take-kinds
 use Rattle.dzervolat.proofs.records.dz_take_burst.Reads as dz-take-burst
@@ -91,6 +95,18 @@ use Rattle.dzervolat.proofs.tracing.dz_replay_block.Reads as dz-replay-
 use Rattle.dzervolat.proofs.tracing.dz_replay_block.Kinds as dz-replay-block-kinds
 use Rattle.dzervolat.proofs.tracing.dz_replay.Reads as dz-replay
 use Rattle.dzervolat.proofs.tracing.dz_replay.Kinds as dz-replay-kinds
+use Rattle.dzervolat.proofs.capturing.dz_import.Reads as dz-import
+use Rattle.dzervolat.proofs.capturing.dz_import.Kinds as dz-import-kinds
+use Rattle.dzervolat.proofs.capturing.dz_export.Reads as dz-export
+use Rattle.dzervolat.proofs.capturing.dz_export.Kinds as dz-export-kinds
+use Rattle.dzervolat.proofs.capturing.dz_capture_head.Reads as dz-capture-head
+use Rattle.dzervolat.proofs.capturing.dz_capture_head.Kinds as dz-capture-head-kinds
+use Rattle.dzervolat.proofs.capturing.dz_capture_packet.Reads as dz-capture-packet
+use Rattle.dzervolat.proofs.capturing.dz_capture_packet.Kinds as dz-capture-packet-kinds
+use Rattle.dzervolat.proofs.capturing.dz_capture_record.Reads as dz-capture-record
+use Rattle.dzervolat.proofs.capturing.dz_capture_record.Kinds as dz-capture-record-kinds
+use Rattle.dzervolat.proofs.capturing.dz_capture_block.Reads as dz-capture-block
+use Rattle.dzervolat.proofs.capturing.dz_capture_block.Kinds as dz-capture-block-kinds
 
 module _ (κs : Lfts 2) (a : Dens κs dz-take-kinds.ps) (x : resT dz-take-kinds.r κs .Denot) (e : AtExit (endedOf 2 dz-take-kinds.ps dz-take-kinds.r) κs) where
   pub dz-take-left : dz-take.Post κs a x e → Left x (now (a .0)) (now (e .0))
@@ -238,3 +254,51 @@ module _ (κs : Lfts 3) (a : Dens κs dz-replay-kinds.ps) (x : resT dz-replay-ki
   dz-replay-left p =
       let s = now (a .1 .0) in
       (left-by (p .0) (p .1 .0) (trace-left (isTrace s) _ (now (a .0)) _), left-by (p .0) (p .1 .1) (replayed-left (replayOf s) (now (a .1 .1 .1 .1 .1 .0))))
+
+module _ (κs : Lfts 3) (a : Dens κs dz-import-kinds.ps) (x : resT dz-import-kinds.r κs .Denot) (e : AtExit (endedOf 3 dz-import-kinds.ps dz-import-kinds.r) κs) where
+  pub dz-import-left : dz-import.Post κs a x e → (Left x (now (a .0)) (now (e .0))) × (Left x (now (a .1 .1 .1 .0)) (now (e .1 .1 .1 .0)))
+  dz-import-left p =
+      let w = importOf (length (now (a .0))) (portOf (a .1 .0)) (now (a .1 .1 .0)) in
+      (left-by (p .0) (p .1 .0) (filled-left w (now (a .0)) _), left-by (p .0) (p .1 .1) (written-left w (now (a .1 .1 .1 .0))))
+
+module _ (κs : Lfts 3) (a : Dens κs dz-export-kinds.ps) (x : resT dz-export-kinds.r κs .Denot) (e : AtExit (endedOf 3 dz-export-kinds.ps dz-export-kinds.r) κs) where
+  pub dz-export-left : dz-export.Post κs a x e → (Left x (now (a .0)) (now (e .0))) × (Left x (now (a .1 .1 .0)) (now (e .1 .1 .0)))
+  dz-export-left p =
+      let w = exportOf (length (now (a .0))) (now (a .1 .0)) in
+      (left-by (p .0) (p .1 .0) (filled-left w (now (a .0)) _), left-by (p .0) (p .1 .1) (written-left w (now (a .1 .1 .0))))
+
+module _ (κs : Lfts 2) (a : Dens κs dz-capture-head-kinds.ps) (x : resT dz-capture-head-kinds.r κs .Denot) (e : AtExit (endedOf 2 dz-capture-head-kinds.ps dz-capture-head-kinds.r) κs) where
+  pub dz-capture-head-left : dz-capture-head.Post κs a x e → Left x (now (a .1 .0)) (now (e .1 .0))
+  dz-capture-head-left p = left-by (p .0) (p .1) (head-left (tellsForm (now (a .0))) (now (a .1 .0)) _)
+
+module _ (κs : Lfts 3) (a : Dens κs dz-capture-packet-kinds.ps) (x : resT dz-capture-packet-kinds.r κs .Denot) (e : AtExit (endedOf 3 dz-capture-packet-kinds.ps dz-capture-packet-kinds.r) κs) where
+  pub dz-capture-packet-left : dz-capture-packet.Post κs a x e → Left x (now (a .1 .1 .0)) (now (e .1 .1 .0))
+  dz-capture-packet-left p = left-by (p .0) (p .1) (head-left (isSound (now (a .0)) (now (a .1 .0))) (now (a .1 .1 .0)) _)
+
+module _ (κs : Lfts 5) (a : Dens κs dz-capture-record-kinds.ps) (x : resT dz-capture-record-kinds.r κs .Denot) (e : AtExit (endedOf 5 dz-capture-record-kinds.ps dz-capture-record-kinds.r) κs) where
+  pub dz-capture-record-left : dz-capture-record.Post κs a x e
+      → (Left x (now (a .0)) (now (e .0))) × ((Left x (now (a .1 .0)) (now (e .1 .0))) × ((Left x (now (a .1 .1 .1 .1 .1 .0)) (now (e .1 .1 .1 .1 .1 .0))) × (Left x (now (a .1 .1 .1 .1 .1 .1 .0)) (now (e .1 .1 .1 .1 .1 .1 .0)))))
+  dz-capture-record-left p =
+      let ws = now (a .0) in
+      let port = portOf (a .1 .1 .0) in
+      let frame : Frame = record { time = a .1 .1 .1 .0; octets = now (a .1 .1 .1 .1 .0) } in
+      let m = entryBy port frame in
+      let lent = frame-left (isPtp (frame .octets)) (recordCheck ws m) (closes ws m) in (
+        left-by (p .0) (p .1 .0) (lent ws (wordsWith ws m)),
+        (
+          left-by (p .0) (p .1 .1 .0) (lent (now (a .1 .0)) (openWith (now (a .1 .0)) ws m)),
+          (
+            left-by (p .0) (p .1 .1 .1 .0) (lent (now (a .1 .1 .1 .1 .1 .0)) (outWith (now (a .1 .0)) ws m (now (a .1 .1 .1 .1 .1 .0)))),
+            left-by (p .0) (p .1 .1 .1 .1) (recorded-left (frameRecorded ws port frame) (now (a .1 .1 .1 .1 .1 .1 .0))),
+          ),
+        ),
+      )
+
+module _ (κs : Lfts 4) (a : Dens κs dz-capture-block-kinds.ps) (x : resT dz-capture-block-kinds.r κs .Denot) (e : AtExit (endedOf 4 dz-capture-block-kinds.ps dz-capture-block-kinds.r) κs) where
+  pub dz-capture-block-left : dz-capture-block.Post κs a x e
+      → (Left x (now (a .0)) (now (e .0))) × ((Left x (now (a .1 .1 .0)) (now (e .1 .1 .0))) × (Left x (now (a .1 .1 .1 .0)) (now (e .1 .1 .1 .0))))
+  dz-capture-block-left p =
+      let w = exportBlockOf (now (a .0)) (now (a .1 .0)) in (
+        left-by (p .0) (p .1 .0) (filled-left w (now (a .0)) _),
+        (left-by (p .0) (p .1 .1 .0) (filled-left w (now (a .1 .1 .0)) _), left-by (p .0) (p .1 .1 .1) (written-left w (now (a .1 .1 .1 .0)))),
+      )

@@ -5,6 +5,7 @@
 // engine and packs the answer.
 ghost use mathlib.Core.Path.{_≡_};
 
+pub mod capturing;
 pub mod measuring;
 pub mod ranking;
 pub mod reading;
@@ -16,7 +17,7 @@ pub mod writing;
 // The number of this library: DZ_VERSION of the header that belongs to it.
 #[no_mangle]
 pub extern "C" fn dz_version() -> u64
-    ensures { λ r. ⌜ r ≡ 5 ⌝ }
+    ensures { λ r. ⌜ r ≡ 6 ⌝ }
 {
-    5
+    6
 }

@@ -72,7 +72,7 @@ pub fn replay_block(
 }
 
 // The block at an octet: 512 octets, or those that are left.
-fn part(trace: &[u8], at: usize) -> &[u8]
+pub fn part(trace: &[u8], at: usize) -> &[u8]
     requires { ⌜ at ≤ length (now trace) ⌝ }
     ensures { λ r. ⌜ now r ≡ take blockOctets (drop at (now (trace .entry))) ⌝ }
 {
@@ -84,7 +84,7 @@ fn part(trace: &[u8], at: usize) -> &[u8]
 }
 
 // Looks at all blocks, and takes nothing.
-fn judged(trace: &[u8]) -> Replayed
+pub fn judged(trace: &[u8]) -> Replayed
     ensures { λ r. ⌜ r ≡ replayOf (now (trace .entry)) ⌝ }
 {
     let mut read = Reader { next: 0, last: 0 };

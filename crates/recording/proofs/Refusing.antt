@@ -1,13 +1,13 @@
 -- A message is refused with 8, 19, 11 and 17 exactly when 02, (iv), says so, in this order, and a refused one changes nothing.
-use Prim.Native.Nat.{ℕ, _≤_}
+use Prim.Native.Nat.{ℕ, _+_, _≤_}
 use mathlib.Core.Path.{_≡_, _∙_, refl, sym, ap, subst}
 use mathlib.Core.List.{List}
 use mathlib.Core.Bool.{Bool, true, false, not, _&&_, and-false}
 use mathlib.Core.Logic.{_⊎_, inl, inr, ⊎-elim}
-use lib.Dec.{ltb}
+use lib.Dec.{leb, ltb}
 use lib.ListN.{length}
-use borrow.Author.Tests.{lt-ltb, le-ltb, ltb-true, ltb-false, not-false}
-use Rattle.laws.proofs.Bools.{clash}
+use borrow.Author.Tests.{lt-ltb, le-ltb, ltb-true, ltb-false, leb-true, not-false}
+use Rattle.laws.proofs.Bools.{clash, both}
 use Rattle.refusal.specs.Choice.{refuse}
 use Rattle.refusal.specs.Refusal.{codeOf}
 use Rattle.refusal.specs.Limits.{isPort}
@@ -16,8 +16,8 @@ use Rattle.refusal.specs.declared.Refusal.the-variants.{Port, Long, Backward, M
 use Rattle.refusal.specs.declared.Outcome.{Outcome}
 use Rattle.refusal.specs.declared.Outcome.the-variants as outcome
 use Rattle.refusal.proofs.Choice.{goes-on, passed, no-refusal}
-use Rattle.block.specs.Layout.{longest, Entry}
-use Rattle.recording.specs.Recording.{nextOf, lastOf, fits, checkBy, recordCheck, toldBy, answerBy, recordedOf, openAfter, wordsAfter, outAfter, closes}
+use Rattle.block.specs.Layout.{blockOctets, recordsAt, headOctets, longest, Entry}
+use Rattle.recording.specs.Recording.{nextOf, lastOf, hasPlace, fits, checkBy, recordCheck, toldBy, answerBy, recordedOf, openAfter, wordsAfter, outAfter, closes}
 use Rattle.recording.specs.Refusing.{recordedCode, lastNumber, Taken, RecordWhen, no-port, too-long, backward, many, taken}
 use Rattle.recording.specs.declared.Recorded.the-variants as recorded
 
@@ -98,6 +98,12 @@ module _ (ws : List ℕ) (e : Entry) where
   -- a new block that is opened for it has a number
   pub has-number : recordCheck ws e ≡ outcome.Done → fits ws e ≡ false → nextOf ws ≤ lastNumber
   has-number h f = ⊎-elim (λ g. clash g f) (λ l. l) (done h .place)
+
+-- what has its place stands behind the head, and ends inside the block
+pub bounds : (end n : ℕ) → hasPlace end n ≡ true → (recordsAt ≤ end) × (end + (headOctets + n) ≤ blockOctets)
+bounds end n h =
+    let b = both (leb recordsAt end) (leb (end + (headOctets + n)) blockOctets) h in
+    (leb-true _ _ (b .0), leb-true _ _ (b .1))
 
 -- A REFUSED MESSAGE CHANGES NOTHING
 module _ (ws : List ℕ) (e : Entry) (x : Refusal) where

@@ -58,9 +58,13 @@ recordCheck ws e = checkBy (nextOf ws) (lastOf ws) (endOf ws) (e .port) (e .time
 abbrev pub openWith : List ℕ → List ℕ → Entry → List ℕ
 openWith opened ws e = pick (fits ws e) (addedTo opened (endOf ws) e) (addedTo (openedOf (nextOf ws) (e .time)) recordsAt e)
 
+-- a message of n octets at t
+abbrev pub wordsBy : List ℕ → ℕ → ℕ → List ℕ
+wordsBy ws t n =
+    pick (hasPlace (endOf ws) n) (nextOf ws ∷ t ∷ (endOf ws + (headOctets + n)) ∷ []) (suc (nextOf ws) ∷ t ∷ (recordsAt + (headOctets + n)) ∷ [])
+
 abbrev pub wordsWith : List ℕ → Entry → List ℕ
-wordsWith ws e =
-    pick (fits ws e) (nextOf ws ∷ e .time ∷ (endOf ws + sizeOf e) ∷ []) (suc (nextOf ws) ∷ e .time ∷ (recordsAt + sizeOf e) ∷ [])
+wordsWith ws e = wordsBy ws (e .time) (length (e .message))
 
 -- "A record that no longer fits closes the block"
 abbrev pub closes : List ℕ → Entry → Bool

@@ -5,12 +5,15 @@
 // Refused in this order: 8 (a port outside 1 to 18), 19 (a message of more than 485 octets), 11 (a time below the last recorded one, on whatever port),
 // 17 (a new block past number 4,294,967,295). Then nothing that was lent has changed. What is recorded is not looked into.
 ghost use mathlib.Core.Path.{_≡_};
+ghost use mathlib.Core.Bool.{true};
+ghost use mathlib.Core.Logic.{_⊎_};
 ghost use Prim.Native.Nat.{_≤_};
 ghost use lib.Dec.{leb};
 ghost use lib.ListN.{length};
 ghost use Rattle.refusal.specs.declared.Outcome.the-variants.{Done};
 ghost use Rattle.block.specs.Layout.{recordsAt, longest};
-ghost use Rattle.recording.specs.Recording.{entryOf, hasPlace, checkBy, recordCheck, toldOf, openWith, wordsWith, outWith, recordedOf, openAfter, wordsAfter, outAfter, isOpen, finished, toldBy, outBy};
+ghost use Rattle.recording.specs.Recording.{entryOf, nextOf, endOf, hasPlace, checkBy, recordCheck, toldOf, openWith, wordsBy, wordsWith, outWith, recordedOf, openAfter, wordsAfter, outAfter, isOpen, finished, toldBy, outBy};
+ghost use Rattle.recording.specs.Refusing.{lastNumber};
 use refusal::Outcome;
 use refusal::Refusal;
 
@@ -62,6 +65,21 @@ fn check(next: u64, last: u64, end: u64, port: u8, t: u64, n: usize) -> Outcome
     Outcome::Done
 }
 
+// The words move on behind a message of n octets at `t` that is not refused.
+fn advance(words: &mut [u64; WORDS], t: u64, n: usize)
+    requires { ⌜ (n ≤ longest) × ((hasPlace (endOf (now words)) n ≡ true) ⊎ (nextOf (now words) ≤ lastNumber)) ⌝ }
+    ensures { λ _. ⌜ now (words .exit) ≡ wordsBy (now (words .entry)) t n ⌝ }
+{
+    let next = words[0];
+    let end = words[2];
+    let size = (block::HEAD + n) as u64;
+    if has_place(end, n) {
+        *words = [next, t, end + size];
+        return;
+    }
+    *words = [next + 1, t, block::RECORDS as u64 + size];
+}
+
 // Writes the open block closed, where one is open.
 fn close(opened: &[u8; block::OCTETS], end: u64, out: &mut [u8; block::OCTETS]) -> Recorded
     ensures answer { λ r. ⌜ r ≡ toldBy (leb recordsAt end) ⌝ }
@@ -91,17 +109,30 @@ fn put(
 {
     let next = words[0];
     let end = words[2];
-    let size = block::HEAD + message.len();
+    advance(words, t, message.len());
     if has_place(end, message.len()) {
         block::making::add(&mut opened[..], end as usize, t, port, message);
-        *words = [next, t, end + size as u64];
         return Recorded::Kept;
     }
     let told = close(opened, end, out);
     block::making::open(opened, next as u32, t);
     block::making::add(&mut opened[..], block::RECORDS, t, port, message);
-    *words = [next + 1, t, (block::RECORDS + size) as u64];
     told
+}
+
+// What recording a message would answer, and the words as it would leave them; no octet is written.
+pub fn foresee(words: &mut [u64; WORDS], port: u8, t: u64, message: &[u8]) -> Outcome
+    ensures answer { λ r. ⌜ r ≡ recordCheck (now (words .entry)) (entryOf t port (now (message .entry))) ⌝ }
+    ensures words { λ _. ⌜ now (words .exit) ≡ wordsAfter (now (words .entry)) (entryOf t port (now (message .entry))) ⌝ }
+{
+    let n = message.len();
+    match check(words[0], words[1], words[2], port, t, n) {
+        Outcome::Refused(x) => Outcome::Refused(x),
+        Outcome::Done => {
+            advance(words, t, n);
+            Outcome::Done
+        }
+    }
 }
 
 // Records a message that arrived on a port at `t`, or refuses it. Where that closes a block, `out` has it.

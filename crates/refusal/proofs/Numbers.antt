@@ -4,7 +4,7 @@ use mathlib.Core.Path.{_≡_}
 use native.Mathlib.Omega.{arith}
 use Rattle.refusal.specs.Refusal.{numberOf, placeOf, answerOf}
 use Rattle.refusal.specs.declared.Refusal.{Refusal}
-use Rattle.refusal.specs.declared.Refusal.the-variants.{Short, Version, «Type», Length, Stamp, Tlv, WrBad, Port, Domain, Own, Backward, Stale, Full, Range, Unranked, Room, Many, Field, Long, Block}
+use Rattle.refusal.specs.declared.Refusal.the-variants.{Short, Version, «Type», Length, Stamp, Tlv, WrBad, Port, Domain, Own, Backward, Stale, Full, Range, Unranked, Room, Many, Field, Long, Block, Pcap, Export}
 
 -- every refusal has a number above 0, in eight bits
 pub counted : (x : Refusal) → (0 < numberOf x) × (numberOf x < 256)
@@ -28,6 +28,8 @@ counted Many = (omega arith, omega arith)
 counted Field = (omega arith, omega arith)
 counted Long = (omega arith, omega arith)
 counted Block = (omega arith, omega arith)
+counted Pcap = (omega arith, omega arith)
+counted Export = (omega arith, omega arith)
 
 -- so nothing but what is done returns 0
 pub answered : (x : Refusal) → 0 < answerOf x

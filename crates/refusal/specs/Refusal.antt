@@ -1,7 +1,7 @@
--- The numbers that refuse (01, "Numbers that refuse"; 19 and 20 are 02's, (iv)), and the places that two of them have (02, (i)).
+-- The numbers that refuse (01, "Numbers that refuse"; 19 and 20 are 02's, (iv), and 21 and 22, (vi)), and the places that two of them have (02, (i)).
 use Prim.Native.Nat.{ℕ, _+_, _*_}
 use Rattle.refusal.specs.declared.Refusal.{Refusal}
-use Rattle.refusal.specs.declared.Refusal.the-variants.{Short, Version, «Type», Length, Stamp, Tlv, WrBad, Port, Domain, Own, Backward, Stale, Full, Range, Unranked, Room, Many, Field, Long, Block}
+use Rattle.refusal.specs.declared.Refusal.the-variants.{Short, Version, «Type», Length, Stamp, Tlv, WrBad, Port, Domain, Own, Backward, Stale, Full, Range, Unranked, Room, Many, Field, Long, Block, Pcap, Export}
 use Rattle.refusal.specs.declared.Outcome.{Outcome}
 use Rattle.refusal.specs.declared.Outcome.the-variants.{Done, Refused}
 
@@ -27,6 +27,8 @@ numberOf Many = 17
 numberOf Field = 18
 numberOf Long = 19
 numberOf Block = 20
+numberOf Pcap = 21
+numberOf Export = 22
 
 -- "6 and 7 now return this offset too": where in the message the fault stands; 0 of every refusal that returns its number alone
 abbrev pub placeOf : Refusal → ℕ
@@ -50,6 +52,8 @@ placeOf Many = 0
 placeOf Field = 0
 placeOf Long = 0
 placeOf Block = 0
+placeOf Pcap = 0
+placeOf Export = 0
 
 -- a number with a place: the number in the low eight bits, the place above them
 abbrev pub placed : ℕ → ℕ → ℕ

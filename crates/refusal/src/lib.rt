@@ -17,7 +17,7 @@ pub fn is_port(p: u8) -> bool
 // The nanoseconds of a second.
 pub const SECOND_NANOS: u32 = 1_000_000_000;
 
-// The table's twenty rows, by the names it gives them. What refuses a TLV says where in the message it stands.
+// The table's twenty-two rows, by the names it gives them. What refuses a TLV says where in the message it stands.
 pub enum Refusal {
     Short,
     Version,
@@ -39,9 +39,11 @@ pub enum Refusal {
     Field,
     Long,
     Block,
+    Pcap,
+    Export,
 }
 
-// The row's number, 1 to 20.
+// The row's number, 1 to 22.
 pub fn number(x: Refusal) -> u64
     ensures { λ r. ⌜ r ≡ numberOf x ⌝ }
 {
@@ -66,6 +68,8 @@ pub fn number(x: Refusal) -> u64
         Refusal::Field => 18,
         Refusal::Long => 19,
         Refusal::Block => 20,
+        Refusal::Pcap => 21,
+        Refusal::Export => 22,
     }
 }
 
@@ -94,6 +98,8 @@ fn place(x: Refusal) -> u16
         Refusal::Field => 0,
         Refusal::Long => 0,
         Refusal::Block => 0,
+        Refusal::Pcap => 0,
+        Refusal::Export => 0,
     }
 }
 

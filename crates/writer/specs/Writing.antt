@@ -55,6 +55,11 @@ abbrev pub writtenCode : Written → ℕ
 writtenCode (written.Octets n) = 0
 writtenCode (written.Refused x) = answerOf x
 
+-- what was lent, by the answer: a refusal leaves it as it was
+abbrev pub lentBy : Written → List ℕ → List ℕ → List ℕ
+lentBy (written.Octets n) before after = after
+lentBy (written.Refused x) before after = before
+
 -- the buffer at exit: "octets past the message stay"; a refusal leaves the whole buffer as it was
 unfoldable pub bufferOf : ℕ → Message → List ℕ → List ℕ → List ℕ
 bufferOf magic m tail out =

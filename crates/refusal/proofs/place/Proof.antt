@@ -63,10 +63,18 @@ returns-19 c = rw (c .enum-told17 .given .1)
 returns-20 : tie.Need-returns-20
 returns-20 c = rw (c .enum-told18 .given .1)
 
+returns-21 : tie.Need-returns-21
+returns-21 c = rw (c .enum-told19 .given .1)
+
+returns-22 : tie.Need-returns-22
+returns-22 c = rw (c .enum-told20 .given .1)
+
 pub place-spec : {M : Type 1} → statement M
 place-spec =
     tie.close
     (tie.spec
+    (λ c. search needs)
+    (λ c. search needs)
     (λ c. search needs)
     (λ c. search needs)
     (λ c. search needs)
@@ -106,4 +114,6 @@ place-spec =
     returns-17
     returns-18
     returns-19
-    returns-20)
+    returns-20
+    returns-21
+    returns-22)

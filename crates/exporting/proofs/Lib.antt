@@ -1,0 +1,4 @@
+pub mod Few
+pub mod Packets
+pub mod Writable
+pub mod Exported

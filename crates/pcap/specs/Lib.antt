@@ -1,0 +1,3 @@
+pub mod Form
+pub mod File
+pub mod Written
