@@ -558,18 +558,22 @@ dz_answer dz_export(uint8_t *out, size_t room, const uint8_t *octets, size_t len
 
        static uint64_t recording[DZ_RECORDING_WORDS];                    // zeroed: a fresh recording
        static uint8_t open[DZ_BLOCK_OCTETS];
-       uint8_t head[DZ_CAPTURE_HEAD_OCTETS], packet[DZ_PACKET_HEAD_OCTETS], block[DZ_BLOCK_OCTETS];
+       uint8_t head[DZ_CAPTURE_HEAD_OCTETS], packet[DZ_PACKET_HEAD_OCTETS], frame[DZ_FRAME_HEAD_OCTETS + DZ_TRACE_LONGEST + 1], block[DZ_BLOCK_OCTETS];
        uint64_t form[DZ_FORM_WORDS], is[DZ_PACKET_WORDS], closed;
-       fetch(head, sizeof head); dz_capture_head(head, form);
+       fetch(head, sizeof head);
+       if (dz_capture_head(head, form) != DZ_OK) return;
        while (fetch(packet, sizeof packet)) {
-           dz_capture_packet(form, packet, is); fetch(frame, is[DZ_K_STORED]);
-           if (dz_capture_record(recording, open, port, is[DZ_K_TIME], frame, is[DZ_K_STORED], block, &closed) == DZ_OK && closed) write_away(block);
+           if (dz_capture_packet(form, packet, is) != DZ_OK) return;
+           size_t lent = is[DZ_K_STORED] < sizeof frame ? (size_t)is[DZ_K_STORED] : sizeof frame; // what a file claims is not believed
+           fetch(frame, lent);
+           skip(is[DZ_K_STORED] - lent);
+           if (dz_capture_record(recording, open, port, is[DZ_K_TIME], frame, lent, block, &closed) == DZ_OK && closed) write_away(block);
        }
        if (dz_trace_finish(recording, open, block, &closed) == DZ_OK && closed) write_away(block); */
 
 /* The form of a file. */
 enum dz_form {
-    DZ_FORM_LITTLE = 0, /* 1 where the lowest octet of a number comes first */
+    DZ_FORM_LITTLE = 0, /* 0 where the highest octet of a number comes first; 1, or any other number, where the lowest does */
     DZ_FORM_UNIT = 1,   /* the nanoseconds of one count of a fraction: 1000 or 1 */
     DZ_FORM_WORDS = 2
 };
@@ -584,7 +588,7 @@ enum dz_packet {
     DZ_PACKET_WORDS = 2
 };
 
-/* What a packet's head says. Refuses 21 for a fraction of a second or more, a frame stored short, or words that are no form. */
+/* What a packet's head says. Refuses 21 for a fraction of a second or more, a frame stored short, or a unit that is none. */
 dz_answer dz_capture_packet(const uint64_t form[DZ_FORM_WORDS], const uint8_t head[DZ_PACKET_HEAD_OCTETS], uint64_t packet[DZ_PACKET_WORDS]);
 
 /* Records the message of a frame that arrived on `port` at `time`, as dz_trace_record does, or passes the frame over, and then nothing changes but that *closed is 0.

@@ -1604,7 +1604,7 @@ static void try_packet_heads(const struct file *x)
     }
 }
 
-/* The longest trace that a capture can give: every second packet of half a block closes one. */
+/* The trace of a capture: a message of half a block takes a whole one, so that it may have almost twice as many octets. */
 static uint8_t streamed[CAPTURE_OCTETS * 2 + DZ_BLOCK_OCTETS];
 
 /* Records all packets of a file, one after another, until one is refused: how many octets the trace has. */

@@ -1,1 +1,4 @@
 mod Laws
+pub mod Forms
+mod Witnesses
+mod Determined

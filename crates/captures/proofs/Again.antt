@@ -23,10 +23,10 @@ use Rattle.judging.specs.declared.Reader.{Reader}
 use Rattle.judging.proofs.TestLaws.{laid}
 use Rattle.recording.specs.Recording.{nextOf, lastOf, endOf, fits, recordCheck, wordsWith, wordsAfter, lentBy}
 use Rattle.recording.proofs.Refusing.{is-done}
-use Rattle.playback.specs.Playback.{accepts, chunkCount, acceptsAll, freshReader, isTrace, entriesOfAll}
+use Rattle.playback.specs.Playback.{accepts, acceptsAll, freshReader, isTrace, entriesOfAll}
 use Rattle.playback.proofs.Exactly.{accepts-is}
 use Rattle.exporting.specs.Exporting.{recordsOf}
-use Rattle.exporting.proofs.Few.{AllOctets, chunks-octets}
+use Rattle.exporting.proofs.Few.{AllOctets, blocks-octets}
 use Rattle.importing.specs.Importing.{orElse, recordsCheck, freshWords}
 
 -- ---- WHERE A RECORDING IS, beside the trace whose records it is handed: the trace is in its block j, counted from 1, of whose room x octets are used. The
@@ -38,8 +38,7 @@ pub record Behind (j x : ℕ) (ws : List ℕ) : Type 0 where
 
 -- a record of the trace's block is taken, and the recording is still no further
 module _ (j x : ℕ) (ws : List ℕ) (e : Entry) (some : 0 < j) (few : j ≤ 4294967296) (b : Behind j x ws)
-  (port : isPort (e .port) ≡ true) (later : lastOf ws ≤ e .time) (room : x + sizeOf e ≤ 496) where
-
+    (port : isPort (e .port) ≡ true) (later : lastOf ws ≤ e .time) (room : x + sizeOf e ≤ 496) where
   -- in a block that is as full as the trace's, or less, it has its place
   same-fits : nextOf ws ≡ j → fits ws e ≡ true
   same-fits is =
@@ -52,8 +51,8 @@ module _ (j x : ℕ) (ws : List ℕ) (e : Entry) (some : 0 < j) (few : j ≤ 429
   new-block : fits ws e ≡ false → nextOf ws < j
   new-block f = below (nextOf ws) (b .next) (λ is. clash (same-fits is) f)
     where
-    below : (n : ℕ) → n ≤ j → (n ≡ j → ⊥) → n < j
-    below n h k = omega (arith, k)
+      below : (n : ℕ) → n ≤ j → (n ≡ j → ⊥) → n < j
+      below n h k = omega (arith, k)
 
   place : (f : Bool) → fits ws e ≡ f → (fits ws e ≡ true) ⊎ (nextOf ws ≤ 4294967295)
   place true f = inl f
@@ -155,6 +154,6 @@ blocks-taken (s ∷ bs) r j x ws o e h b is =
 -- EVERY RECORD OF A TRACE is taken by a fresh recording
 pub taken-again : (s : List ℕ) → Octets s → isTrace s ≡ true → recordsCheck freshWords (recordsOf s) ≡ outcome.Done
 taken-again s o e =
-    blocks-taken _ freshReader 0 0 freshWords (chunks-octets (chunkCount (length s)) s o) e (omega arith)
+    blocks-taken _ freshReader 0 0 freshWords (blocks-octets s o) e (omega arith)
     (record { next = omega arith; end = λ is. omega arith; begun = λ h. absurd (omega arith) })
     refl

@@ -16,7 +16,7 @@ use Rattle.refusal.specs.declared.Refusal.the-variants.{Room}
 use Rattle.refusal.specs.declared.Outcome.{Outcome}
 use Rattle.refusal.specs.declared.Outcome.the-variants as outcome
 use Rattle.octets.specs.Be.{be}
-use Rattle.octets.proofs.Laws.{Octets, be-bound}
+use Rattle.octets.proofs.Laws.{Octets, octets-take, octets-drop, be-bound}
 use Rattle.writer.specs.declared.writing.Written.{Written}
 use Rattle.writer.specs.declared.writing.Written.the-variants as written
 use Rattle.block.specs.Layout.{blockOctets, recordsAt, headOctets, Entry, countOf, lengthAt, entryAt, endAt, entriesFrom}
@@ -25,12 +25,12 @@ use Rattle.recording.specs.Recording.{recordCheck, wordsAfter}
 use Rattle.recording.proofs.Refusing.{done}
 use Rattle.traces.specs.Taped.{freshTape, IsShort}
 use Rattle.traces.proofs.Whole.{recorded-accepted, recorded-entries}
-use Rattle.playback.specs.Playback.{chunkCount, blocksIn, entriesOfAll, isTrace}
+use Rattle.playback.specs.Playback.{blocksIn, entriesOfAll, isTrace}
 use Rattle.pcap.specs.File.{Frame, isCapture, framesOf}
 use Rattle.pcap.specs.Written.{Packet, Fits, AllFit, frameIn, framed, ourForm, ourFields}
 use Rattle.pcap.proofs.ReadBack.{file-accepted, file-read}
 use Rattle.exporting.specs.Exporting.{packetBy, captureOf, isWritable, areWritable, recordsOf}
-use Rattle.exporting.proofs.Few.{AllOctets, octets-take, octets-drop, chunks-octets}
+use Rattle.exporting.proofs.Few.{AllOctets, blocks-octets}
 use Rattle.captures.proofs.Again.{taken-again}
 use Rattle.importing.proofs.Tapes.{first-done, all-kept}
 use Rattle.importing.specs.Importing.{isPtp, entryBy, takenOf, orElse, recordsCheck, freshWords, traceBy, recordsIn, behind, importOf}
@@ -135,7 +135,7 @@ module _ (s : List ℕ) (o : Octets s) (accepted : isTrace s ≡ true) (p : ℕ)
 
   -- and replay accepts the trace that it makes, with the same records
   again-fits : All EntryFits es
-  again-fits = all-entries-fit (blocksIn s) (chunks-octets (chunkCount (length s)) s o)
+  again-fits = all-entries-fit (blocksIn s) (blocks-octets s o)
 
   pub trace-again : isTrace (traceBy es) ≡ true
   trace-again = recorded-accepted (replicate blockOctets 0) 0 es again-fits (omega arith)

@@ -15,12 +15,7 @@ ghost use Rattle.words.specs.Words.{portOf};
 
 // Reads a whole capture into a trace on a port, and says how many octets that has.
 #[no_mangle]
-pub extern "C" fn dz_import(
-    out: &mut [u8],
-    port: u64,
-    octets: &[u8],
-    written: &mut [u64; 1],
-) -> u64
+pub extern "C" fn dz_import(out: &mut [u8], port: u64, octets: &[u8], written: &mut [u64; 1]) -> u64
     ensures answer { λ r. ⌜ r ≡ writtenCode (importOf (length (now (out .entry))) (portOf port) (now (octets .entry))) ⌝ }
     ensures buffer { λ _. ⌜ now (out .exit) ≡ outAfterImport (now (out .entry)) (portOf port) (now (octets .entry)) ⌝ }
     ensures words { λ _. ⌜ now (written .exit) ≡ writtenWords (importOf (length (now (out .entry))) (portOf port) (now (octets .entry))) (now (written .entry)) ⌝ }

@@ -19,9 +19,9 @@ use Rattle.judging.specs.declared.Verdict.the-variants.{Sound}
 use Rattle.playback.specs.declared.Replayed.the-variants as replayed
 use Rattle.playback.specs.Playback.{isSound, readerOf, accepts, isTrace, replayOf}
 use Rattle.playback.proofs.Blocks.{sound-laid}
-use Rattle.exporting.specs.Exporting.{packetsOf, captureOf, portOf, areWritable, weightOf, recordsOf, canWrite, exportOf, lentBy, outAfterExport, portBehind, exportBlockOf, readerBehind, packetsBehind}
+use Rattle.exporting.specs.Exporting.{packetsOf, captureOf, areWritable, weightOf, recordsOf, canWrite, exportOf, lentBy, outAfterExport, portBehind, exportBlockOf, readerBehind, packetsBehind}
 use Rattle.exporting.specs.declared.Weight.the-variants as weight
-use Rattle.exporting.proofs.Writable.{weighs, weighs-none}
+use Rattle.exporting.proofs.Writable.{weighs}
 
 -- ---- A WHOLE TRACE
 -- replay refuses it

@@ -1,14 +1,13 @@
 -- A TRACE HAS FEW BLOCKS: their numbers have four octets and rise strictly, so that an accepted trace has at most 4,294,967,296 blocks of 512 octets.
-use Prim.Native.Nat.{ℕ, zero, suc, _+_, _*_, _≤_, _<_}
-use mathlib.Core.Path.{_≡_, refl, ap, _∙_}
+use Prim.Native.Nat.{ℕ, zero, suc, _+_, _≤_, _<_}
+use mathlib.Core.Path.{_≡_, refl, ap}
 use mathlib.Core.List.{List, [], _∷_}
 use mathlib.Core.Bool.{true, not, _&&_}
 use native.Mathlib.Omega.{arith}
-use lib.ListN.{length, take, drop, getD, length-drop}
-use lib.Seq.{getD-drop}
+use lib.ListN.{length, take, drop}
 use borrow.Author.Tests.{leb-true}
 use Rattle.laws.proofs.Bools.{both}
-use Rattle.octets.proofs.Laws.{Octets, be-bound}
+use Rattle.octets.proofs.Laws.{Octets, octets-take, octets-drop, be-bound}
 use Rattle.block.specs.Layout.{numberOf, entriesOf}
 use Rattle.judging.specs.Tests.{failsCheck, isLaid, isNext, isInOrder, readerAfter}
 use Rattle.judging.specs.declared.Reader.{Reader}
@@ -16,24 +15,18 @@ use Rattle.playback.specs.Playback.{accepts, chunks, chunkCount, blocksIn, acce
 use Rattle.playback.proofs.Exactly.{accepts-is}
 
 -- ---- OCTETS
-pub octets-take : (n : ℕ) (s : List ℕ) → Octets s → Octets (take n s)
-octets-take zero s o k = omega arith
-octets-take (suc n) [] o k = o k
-octets-take (suc n) (x ∷ s) o zero = o 0
-octets-take (suc n) (x ∷ s) o (suc k) = octets-take n s (λ j. o (suc j)) k
-
-pub octets-drop : (n : ℕ) (s : List ℕ) → Octets s → Octets (drop n s)
-octets-drop n s o k = rw (getD-drop n s k 0) (o (n + k))
-
 -- every block is octets
 abbrev pub AllOctets : List (List ℕ) → Type 0
 AllOctets [] = Unit {0}
 AllOctets (b ∷ bs) = Octets b × AllOctets bs
 
-pub chunks-octets : (n : ℕ) (s : List ℕ) → Octets s → AllOctets (chunks n s)
+chunks-octets : (n : ℕ) (s : List ℕ) → Octets s → AllOctets (chunks n s)
 unfolding chunks
 chunks-octets zero s o = tt
 chunks-octets (suc n) s o = (octets-take 512 s o, chunks-octets n (drop 512 s) (octets-drop 512 s o))
+
+pub blocks-octets : (s : List ℕ) → Octets s → AllOctets (blocksIn s)
+blocks-octets s o = chunks-octets (chunkCount (length s)) s o
 
 -- ---- NUMBERS
 -- an accepted block has a number that is not below the next one
@@ -61,7 +54,7 @@ chunks-length (suc n) s = ap suc (chunks-length n (drop 512 s))
 module _ (s : List ℕ) (o : Octets s) (trace : isTrace s ≡ true) where
   -- A TRACE has no more blocks than there are numbers ..
   pub trace-few : length (blocksIn s) ≤ 4294967296
-  trace-few = omega (arith, accepted-few freshReader (blocksIn s) (chunks-octets (chunkCount (length s)) s o) trace (omega arith))
+  trace-few = omega (arith, accepted-few freshReader (blocksIn s) (blocks-octets s o) trace (omega arith))
 
   -- .. and no more octets than they have
   pub trace-short : length s ≤ 2199023255552

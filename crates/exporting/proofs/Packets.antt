@@ -12,7 +12,7 @@ use Rattle.laws.proofs.Bools.{both}
 use Rattle.octets.proofs.Laws.{Octets}
 use Rattle.refusal.specs.Limits.{isPort}
 use Rattle.block.specs.Layout.{Entry, countOf, timeAt, portAt, entryAt, endAt, lengthAt, messageAt, entriesFrom, entriesOf}
-use Rattle.block.specs.Making.{sizeOf, sizesOf}
+use Rattle.block.specs.Making.{sizesOf}
 use Rattle.block.proofs.Made.{sizes-count}
 use Rattle.stores.specs.Stores.{over}
 use Rattle.stores.proofs.Buffer.{put-two}
@@ -106,10 +106,6 @@ module _ (s : List ℕ) (at n i : ℕ) (h : i < n) where
 module _ (b : List ℕ) (bs : List (List ℕ)) where
   pub blocks-length : length (packetsOf (entriesOf b ++ entriesOfAll bs)) ≡ length (packetsOf (entriesOf b)) + length (packetsOf (entriesOfAll bs))
   blocks-length = ap length (packets-append (entriesOf b) (entriesOfAll bs)) ∙ length-append (packetsOf (entriesOf b)) (packetsOf (entriesOfAll bs))
-
-  pub all-length : length (packetsOf (entriesOfAll (b ∷ bs))) ≡ length (packetsOf (entriesOf b)) + length (packetsOf (entriesOfAll bs))
-  unfolding entriesOfAll
-  all-length = blocks-length
 
   -- those of one block were put, and then those of the blocks behind it are
   pub block-put : (o o′ : List ℕ) (to to′ : ℕ) → to ≤ length o → to′ ≡ to + length (packetsOf (entriesOf b)) → o′ ≡ over o to (packetsOf (entriesOf b))

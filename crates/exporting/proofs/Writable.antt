@@ -111,7 +111,7 @@ module _ (total port : ℕ) (b : List ℕ) (bs : List (List ℕ)) where
 
 -- ---- THE PORT
 -- of the first record of a block whose layout is right, before whatever follows
-first-of : (s : List ℕ) (fs : List Entry) → isLaid s ≡ true → portAt s 16 ≡ portOf (entriesOf s ++ fs)
+pub first-of : (s : List ℕ) (fs : List Entry) → isLaid s ≡ true → portAt s 16 ≡ portOf (entriesOf s ++ fs)
 unfolding entriesFrom
 first-of s fs h =
     let k = laid s h in

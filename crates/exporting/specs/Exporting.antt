@@ -17,7 +17,6 @@ pub use Rattle.writer.specs.Writing.{lentBy}
 use Rattle.block.specs.Layout.{Entry, entriesOf}
 use Rattle.judging.specs.Tests.{readerAfter}
 use Rattle.playback.specs.Playback.{readerOf, accepts, blocksIn, entriesOfAll, isTrace}
-use Rattle.pcap.specs.File.{Frame}
 use Rattle.pcap.specs.Written.{Packet, packetsIn, headIn, ourForm, ourFields, framed, ourPacket}
 use Rattle.exporting.specs.declared.Weight.{Weight}
 use Rattle.exporting.specs.declared.Weight.the-variants as weight

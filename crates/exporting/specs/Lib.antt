@@ -1,1 +1,3 @@
 pub mod Exporting
+pub mod When
+pub mod Streaming

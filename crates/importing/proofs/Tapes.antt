@@ -3,22 +3,21 @@
 use Prim.Native.Nat.{ℕ, suc, _+_, _*_, _≤_}
 use mathlib.Core.Path.{_≡_, _∙_, refl, sym, ap}
 use mathlib.Core.List.{List, [], _∷_, _++_, append-assoc, append-nil}
-use mathlib.Core.Bool.{Bool, true, false, not, _&&_}
+use mathlib.Core.Bool.{Bool, true, false}
 use native.Mathlib.Omega.{arith}
 use lib.Dec.{leb}
 use lib.ListN.{length, take, drop, replicate, length-append, length-drop, length-replicate}
 use lib.Seq.{length-take-le}
-use borrow.Author.Tests.{le-leb, leb-true}
-use Rattle.laws.proofs.Bools.{both}
+use borrow.Author.Tests.{le-leb}
 use Rattle.refusal.specs.Choice.{pick}
 use Rattle.refusal.specs.declared.Outcome.{Outcome}
 use Rattle.refusal.specs.declared.Outcome.the-variants as outcome
 use Rattle.octets.specs.Be.{octetsOf}
 use Rattle.stores.specs.Stores.{over}
-use Rattle.block.specs.Layout.{blockOctets, recordsAt, headOctets, Entry, countOf}
+use Rattle.block.specs.Layout.{blockOctets, recordsAt, Entry, countOf}
 use Rattle.block.specs.Making.{sizeOf, openedOf, addedTo, sealed, entryOctets}
-use Rattle.recording.specs.Recording.{nextOf, endOf, isOpen, fits, closes, recordCheck, lentBy, openWith, wordsWith, openAfter, wordsAfter}
-use Rattle.recording.proofs.Refusing.{done, has-number, bounds}
+use Rattle.recording.specs.Recording.{nextOf, endOf, fits, recordCheck, openAfter, wordsAfter}
+use Rattle.recording.proofs.Refusing.{done, bounds}
 use Rattle.traces.specs.Taped.{Tape, givenBy, tapedWith, tapedAll, traceOf, freshTape, keptOf}
 use Rattle.traces.proofs.Meaning.{kept}
 use Rattle.importing.specs.Importing.{orElse, recordsCheck, wordsAfterAll, freshWords, traceBy}
@@ -50,18 +49,6 @@ pub words-all : (es : List Entry) (t : Tape) → tapedAll t es .words ≡ wordsA
 unfolding tapedAll wordsAfterAll
 words-all [] t = refl
 words-all (e ∷ es) t = words-all es (tapedWith t e)
-
--- no block is numbered past 4,294,967,295
-next-by : (ws : List ℕ) (e : Entry) → nextOf ws ≤ 4294967296 → (o : Outcome) → recordCheck ws e ≡ o → (b : Bool) → fits ws e ≡ b
-    → nextOf (lentBy o ws (wordsWith ws e)) ≤ 4294967296
-next-by ws e h (outcome.Refused x) r b f = h
-next-by ws e h outcome.Done r true f = rw f h
-next-by ws e h outcome.Done r false f = let k = has-number ws e r f in rw f (omega arith)
-
-pub next-most : (es : List Entry) (ws : List ℕ) → nextOf ws ≤ 4294967296 → nextOf (wordsAfterAll ws es) ≤ 4294967296
-unfolding wordsAfterAll
-next-most [] ws h = h
-next-most (e ∷ es) ws h = next-most es (wordsAfter ws e) (next-by ws e h (recordCheck ws e) refl (fits ws e) refl)
 
 -- ---- NONE IS REFUSED
 -- what comes first was taken, and those behind it are

@@ -1,2 +1,3 @@
 pub mod Importing
 pub mod When
+pub mod Streamed

@@ -15,6 +15,16 @@ use Rattle.octets.specs.Be.{be, octetsOf}
 abbrev pub Octets : List ℕ → Type 0
 Octets s = (k : ℕ) → getD s k 0 < 256
 
+-- so is every element of a part
+pub octets-take : (n : ℕ) (s : List ℕ) → Octets s → Octets (take n s)
+octets-take zero s o k = omega arith
+octets-take (suc n) [] o k = o k
+octets-take (suc n) (x ∷ s) o zero = o 0
+octets-take (suc n) (x ∷ s) o (suc k) = octets-take n s (λ j. o (suc j)) k
+
+pub octets-drop : (n : ℕ) (s : List ℕ) → Octets s → Octets (drop n s)
+octets-drop n s o k = rw (getD-drop n s k 0) (o (n + k))
+
 pub be-bound : (n : ℕ) (s : List ℕ) (at : ℕ) → Octets s → be n s at < 256 ^ n
 unfolding be
 be-bound zero s at o = omega arith

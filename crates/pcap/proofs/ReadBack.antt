@@ -149,9 +149,16 @@ module _ (f : Form) (h : Fields) (rest : List ℕ) where
 
   head-length : length file ≡ 24 + length rest
   head-length =
-      omega
-      (arith, number-length f 4 1 rest, number-length f 4 (h .snapshot) link, number-length f 4 (h .accuracy) snapshot, number-length f 4 (h .zone) accuracy,
-      number-length f 2 4 zone, number-length f 2 2 minor, number-length f 4 (magicOf f) major)
+      omega (
+        arith,
+        number-length f 4 1 rest,
+        number-length f 4 (h .snapshot) link,
+        number-length f 4 (h .accuracy) snapshot,
+        number-length f 4 (h .zone) accuracy,
+        number-length f 2 4 zone,
+        number-length f 2 2 minor,
+        number-length f 4 (magicOf f) major,
+      )
 
   pub form-back : IsForm f → formOf (headIn f h rest) ≡ f
   form-back is = told (f .little) (f .unit) is major
@@ -198,9 +205,14 @@ module _ (f : Form) (p : Packet) (rest : List ℕ) (fit : Fits f p) where
 
   packet-length : length packet ≡ 16 + (length (p .octets) + length rest)
   packet-length =
-      omega
-      (arith, length-append (p .octets) rest, number-length f 4 (p .original) frame, number-length f 4 (length (p .octets)) original, number-length f 4 (p .fraction) stored,
-      number-length f 4 (p .seconds) fraction)
+      omega (
+        arith,
+        length-append (p .octets) rest,
+        number-length f 4 (p .original) frame,
+        number-length f 4 (length (p .octets)) original,
+        number-length f 4 (p .fraction) stored,
+        number-length f 4 (p .seconds) fraction,
+      )
 
   seconds-is : numberAt f 4 packet 0 ≡ p .seconds
   seconds-is = number-there f 4 (p .seconds) 0 packet fraction refl (fit .seconds)

@@ -1,3 +1,4 @@
 pub mod Form
 pub mod File
 pub mod Written
+pub mod When

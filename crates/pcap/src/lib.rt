@@ -12,6 +12,7 @@ ghost use Rattle.pcap.specs.File.{isHead, isEthernet, fractionOf, stored
 
 // The octets of a file's head, and of a packet's.
 pub const HEAD: usize = 24;
+
 pub const PACKET: usize = 16;
 
 // A form: whether the lowest octet of a number comes first, and the nanoseconds of one count of a fraction, 0 where the file's first octets are no magic.

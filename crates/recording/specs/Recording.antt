@@ -13,7 +13,7 @@ use Rattle.refusal.specs.declared.Refusal.the-variants.{Port, Long, Backward, M
 use Rattle.refusal.specs.declared.Outcome.{Outcome}
 use Rattle.refusal.specs.declared.Outcome.the-variants as outcome
 use Rattle.block.specs.Layout.{blockOctets, recordsAt, headOctets, longest, Entry}
-use Rattle.block.specs.Making.{sizeOf, openedOf, addedTo, sealed}
+use Rattle.block.specs.Making.{openedOf, addedTo, sealed}
 use Rattle.recording.specs.declared.Recorded.{Recorded}
 use Rattle.recording.specs.declared.Recorded.the-variants.{Refused, Kept, Closed}
 

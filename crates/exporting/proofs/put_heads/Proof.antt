@@ -1,5 +1,5 @@
 -- `put_heads` meets its contract: the numbers of a packet's head, and the frame's, one behind the other.
-use Prim.Native.Nat.{_/_, _%_, _+_, _≤_}
+use Prim.Native.Nat.{_/_, _%_, _≤_}
 use mathlib.Core.Path.{refl}
 use mathlib.Core.List.{[]}
 use native.Mathlib.Omega.{arith}

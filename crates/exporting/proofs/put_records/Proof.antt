@@ -6,7 +6,6 @@ use mathlib.Core.Bool.{true}
 use native.Mathlib.Omega.{arith}
 use native.Mathlib.Nat.{add-zero, sub-zero}
 use lib.ListN.{length, drop, length-take}
-use borrow.Author.Needs.{needs}
 use Rattle.block.specs.Layout.{entriesFrom, entriesOf}
 use Rattle.stores.specs.Stores.{over}
 use Rattle.stores.proofs.Buffer.{put-none}

@@ -1,16 +1,16 @@
 -- `weigh` meets its contract: the loop's invariant says that the records that are left are laid out right, so that each is there to be read, and that
 -- they weigh, behind those that were weighed, what all weigh. A packet weighs at most three times its record.
-use Prim.Native.Nat.{_+_, _*_, _≤_, _-_}
-use mathlib.Core.Path.{_≡_, sym, ap, _∙_}
-use mathlib.Core.Bool.{true, false}
+use Prim.Native.Nat.{_*_, _≤_, _-_}
+use mathlib.Core.Path.{_≡_, _∙_}
+use mathlib.Core.Bool.{true}
 use native.Mathlib.Omega.{arith}
 use native.Mathlib.Nat.{sub-zero}
 use borrow.Author.Needs.{needs}
 use borrow.Author.Tests.{not-true, not-false}
-use Rattle.block.specs.Layout.{entryAt, entriesFrom, entriesOf}
+use Rattle.block.specs.Layout.{entriesFrom, entriesOf}
 use Rattle.judging.specs.Tests.{laidFrom}
 use Rattle.judging.proofs.TestLaws.{laid, laid-on}
-use Rattle.exporting.specs.Exporting.{isWritable, weightOf}
+use Rattle.exporting.specs.Exporting.{weightOf}
 use Rattle.exporting.proofs.Writable.{writable-read, weightBy, weight-begin, weight-stop, weight-more, weight-end}
 use Rattle.exporting.proofs.weigh.Statement.{statement}
 use Rattle.exporting.proofs.weigh.Tie as tie

@@ -1,7 +1,7 @@
 -- `weigh_all` meets its contract: the loop's invariant says that the blocks that are left are laid out right, and that they weigh, behind those that
 -- were weighed, what all weigh. The packets of a block weigh at most three times the block, and a trace has few blocks, so that the sum has a place.
 use Prim.Native.Nat.{ℕ, _+_, _*_, _≤_, _<_, _-_}
-use mathlib.Core.Path.{_≡_, refl, sym, ap, subst, _∙_}
+use mathlib.Core.Path.{_≡_, sym, ap, subst, _∙_}
 use mathlib.Core.List.{List, _∷_}
 use mathlib.Core.Bool.{true}
 use native.Mathlib.Omega.{arith}
@@ -12,7 +12,7 @@ use Rattle.judging.specs.Tests.{isLaid}
 use Rattle.judging.proofs.TestLaws.{laid}
 use Rattle.playback.specs.Playback.{blocksIn, entriesOfAll, freshReader}
 use Rattle.playback.proofs.Blocks.{blocks-end, blocks-more, block-inside, AllLaid, all-laid}
-use Rattle.exporting.specs.Exporting.{packetsOf, portOf, weightOf, recordsOf}
+use Rattle.exporting.specs.Exporting.{portOf, weightOf, recordsOf}
 use Rattle.exporting.proofs.Few.{trace-short}
 use Rattle.exporting.proofs.Packets.{block-packets}
 use Rattle.exporting.proofs.Writable.{weightBy, weight-begin, weight-end, weighs, block-stop, block-more}

@@ -4,7 +4,7 @@ use mathlib.Core.Path.{_≡_, refl, sym, ap, subst, _∙_}
 use mathlib.Core.List.{List, [], _++_}
 use native.Mathlib.Omega.{arith}
 use borrow.Author.Needs.{needs}
-use lib.ListN.{length, take, drop, length-append}
+use lib.ListN.{length, length-append}
 use Rattle.stores.specs.Stores.{over}
 use Rattle.pcap.specs.File.{Frame, framesIn}
 use Rattle.pcap.proofs.Laws.{lent-rest}

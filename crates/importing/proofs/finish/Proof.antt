@@ -1,8 +1,6 @@
 -- `finish` meets its contract: by whether a block is open.
-use Prim.Native.Nat.{_+_, _≤_}
 use mathlib.Core.Path.{_≡_, sym, ap, _∙_}
 use mathlib.Core.Bool.{true, false}
-use lib.ListN.{length}
 use borrow.Author.Needs.{needs}
 use Rattle.stores.specs.Stores.{over}
 use Rattle.stores.proofs.Buffer.{put-none}

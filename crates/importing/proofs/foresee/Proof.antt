@@ -1,8 +1,6 @@
 -- `foresee` meets its contract: by whether the frame is taken.
-use Prim.Native.Nat.{_≤_}
 use mathlib.Core.Path.{_≡_, sym, _∙_}
 use mathlib.Core.Bool.{true, false}
-use lib.ListN.{length}
 use borrow.Author.Needs.{needs}
 use borrow.Author.Tests.{not-true, not-false}
 use Rattle.pcap.proofs.Laws.{lent-rest}

@@ -1,22 +1,18 @@
 -- `import` meets its contract: check by check, in their order; and the blocks that were counted are those of the trace.
 use Prim.Native.Nat.{ℕ, _*_, _/_, _≤_, _<_}
 use mathlib.Core.Path.{_≡_, sym, ap, subst, _∙_}
-use mathlib.Core.List.{List}
-use mathlib.Core.Bool.{true, false}
+use mathlib.Core.Bool.{true}
 use native.Mathlib.Omega.{arith}
 use lib.ListN.{length}
 use borrow.Author.Needs.{needs}
 use borrow.Author.Tests.{not-true, not-false}
 use Rattle.refusal.specs.Limits.{isPort}
-use Rattle.refusal.specs.declared.Outcome.the-variants as outcome
 use Rattle.pcap.specs.declared.Form.{Form}
 use Rattle.pcap.specs.Form.{formOf}
 use Rattle.stores.specs.Stores.{over}
 use Rattle.recording.specs.Recording.{nextOf}
 use Rattle.pcap.specs.File.{isCapture, isCaptureIn, framesIn, framesOf}
-use Rattle.writer.specs.declared.writing.Written.the-variants.{Octets, Refused}
-use Rattle.importing.specs.declared.Weight.{Weight}
-use Rattle.importing.specs.declared.Weight.the-variants as weight
+use Rattle.writer.specs.declared.writing.Written.the-variants.{Octets}
 use Rattle.importing.specs.Importing.{takenOf, recordsCheck, freshWords, wordsAfterAll, traceBy, recordsIn, weightOf}
 use Rattle.importing.proofs.Tapes.{trace-length}
 use Rattle.importing.proofs.Walk.{capture-sound}

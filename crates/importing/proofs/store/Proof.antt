@@ -1,15 +1,7 @@
 -- `store` meets its contract: by whether a block came out.
-use Prim.Native.Nat.{ℕ, _+_, _≤_}
-use mathlib.Core.Path.{_≡_, sym, ap, _∙_}
-use mathlib.Core.List.{List}
-use native.Mathlib.Nat.{add-zero}
 use native.Mathlib.Omega.{arith}
-use lib.ListN.{length}
 use borrow.Author.Needs.{needs}
-use Rattle.stores.specs.Stores.{over}
 use Rattle.stores.proofs.Buffer.{put-none}
-use Rattle.recording.specs.declared.Recorded.{Recorded}
-use Rattle.importing.specs.Importing.{cameOut}
 use Rattle.importing.proofs.store.Statement.{statement}
 use Rattle.importing.proofs.store.Tie as tie
 

@@ -4,8 +4,8 @@ use mathlib.Core.Path.{_≡_, refl, sym, ap, _∙_}
 use mathlib.Core.List.{List}
 use native.Mathlib.Omega.{arith}
 use borrow.Author.Needs.{needs}
-use lib.ListN.{length, take, drop}
-use Rattle.pcap.specs.File.{Frame, framesIn}
+use lib.ListN.{length}
+use Rattle.pcap.specs.File.{framesIn}
 use Rattle.pcap.proofs.Laws.{lent-rest}
 use Rattle.importing.specs.Importing.{weightOf}
 use Rattle.importing.proofs.Frames.{weightFrom, weight-end, weight-stop, weight-more}

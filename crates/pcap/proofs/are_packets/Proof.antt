@@ -81,8 +81,7 @@ loop-again c =
     let l = g .before in
     let a = l .before .before .args in
     let is = lent-rest (a .s .now) (l .loop .at) (omega arith) in
-    let k = packet-ends (a .form) (a .s .now) (l .loop .at) (g .loop-test .taken) _ is (sym (t .is-packet .ensures) ∙ not-false _ (e .if1 .left)) in
-    (
+    let k = packet-ends (a .form) (a .s .now) (l .loop .at) (g .loop-test .taken) _ is (sym (t .is-packet .ensures) ∙ not-false _ (e .if1 .left)) in (
       omega (arith, c .size .ensures),
       rw (c .size .ensures)
           (packets-more (a .form) (a .s .now) (l .loop .at) (g .loop-test .taken) _ is (sym (t .is-packet .ensures) ∙ not-false _ (e .if1 .left)) ∙ l .loop .inv .1),

@@ -1,5 +1,4 @@
 -- `advance` meets its contract: by whether the message has its place in the open block. Where it has none, a new block has a number.
-use Prim.Native.Nat.{ℕ, _≤_}
 use mathlib.Core.Path.{_≡_, sym, _∙_}
 use mathlib.Core.Bool.{Bool, true, false}
 use mathlib.Core.Logic.{_⊎_, ⊎-elim}
