@@ -19,13 +19,13 @@ ghost use Rattle.pcap.specs.Written.{packetIn, headIn, ourForm, ourFields};
 ghost use Rattle.exporting.specs.Exporting.{packetFor, headsOf, packetsOf, captureOf, portOf, weightOf, recordsOf, exportOf, outAfterExport, exportBlockOf, readerBehind, packetsBehind};
 use judging::Reader;
 use judging::Verdict;
+use pcap::FRAME;
+use pcap::PTP;
 use playback::Replayed;
 use refusal::Refusal;
 use writer::writing::Written;
 
-// The octets before a message in a frame, and those before it in a packet.
-const FRAME: usize = 14;
-
+// The octets of a packet before the message of its frame.
 const BEFORE: usize = pcap::PACKET + FRAME;
 
 // The seconds that a capture's time has no place for.
@@ -69,7 +69,7 @@ fn put_heads(out: &mut [u8], at: usize, t: u64, n: u64)
     stores::four(out, at + 8, n);
     stores::four(out, at + 12, n);
     stores::eight(out, at + 16, 0);
-    stores::six(out, at + 24, 0x88F7);
+    stores::six(out, at + 24, PTP as u64);
 }
 
 // Writes a packet.

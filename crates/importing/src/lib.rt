@@ -10,17 +10,13 @@ ghost use lib.ListN.{length};
 ghost use Rattle.stores.specs.Stores.{over};
 ghost use Rattle.pcap.specs.File.{isCaptureIn, framesIn};
 ghost use Rattle.importing.specs.Importing.{isPtp, frameCheck, frameRecorded, openBehind, wordsBehind, outBehind, takenOf, traceBy, weightOf, cameOut, lastOut, importOf, outAfterImport};
+use pcap::FRAME;
 use pcap::Form;
+use pcap::PTP;
 use recording::Recorded;
 use refusal::Outcome;
 use refusal::Refusal;
 use writer::writing::Written;
-
-// The octets of a frame before its message: two addresses and the EtherType.
-const FRAME: usize = 14;
-
-// The EtherType of PTP.
-const PTP: u16 = 0x88F7;
 
 // How many blocks a file's frames come to, or what recording refuses the first of them with.
 enum Weight {

@@ -15,6 +15,11 @@ pub const HEAD: usize = 24;
 
 pub const PACKET: usize = 16;
 
+// The octets of an Ethernet frame before its message, two addresses and the EtherType, and the EtherType of PTP.
+pub const FRAME: usize = 14;
+
+pub const PTP: u16 = 0x88F7;
+
 // A form: whether the lowest octet of a number comes first, and the nanoseconds of one count of a fraction, 0 where the file's first octets are no magic.
 pub struct Form {
     pub little: bool,

@@ -109,16 +109,14 @@ fn put(
 {
     let next = words[0];
     let end = words[2];
-    let size = block::HEAD + message.len();
+    advance(words, t, message.len());
     if has_place(end, message.len()) {
         block::making::add(&mut opened[..], end as usize, t, port, message);
-        *words = [next, t, end + size as u64];
         return Recorded::Kept;
     }
     let told = close(opened, end, out);
     block::making::open(opened, next as u32, t);
     block::making::add(&mut opened[..], block::RECORDS, t, port, message);
-    *words = [next + 1, t, (block::RECORDS + size) as u64];
     told
 }
 
