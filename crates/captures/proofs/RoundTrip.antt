@@ -8,17 +8,20 @@ use mathlib.Core.Bool.{Bool, true, false, not, _&&_}
 use native.Mathlib.Omega.{arith}
 use lib.Dec.{eqb, leb, ltb}
 use lib.ListN.{length, getD, take, drop, replicate}
+use lib.Seq.{take-at}
 use borrow.Author.Tests.{leb-true, le-leb, ltb-true, eqb-true}
 use Rattle.laws.proofs.Bools.{both}
 use Rattle.refusal.specs.Choice.{pick, refuse}
 use Rattle.refusal.specs.Limits.{isPort, secondNanos}
-use Rattle.refusal.specs.declared.Refusal.the-variants.{Room}
+use Rattle.refusal.specs.declared.Refusal.the-variants.{Block, Export, Room}
 use Rattle.refusal.specs.declared.Outcome.{Outcome}
 use Rattle.refusal.specs.declared.Outcome.the-variants as outcome
 use Rattle.octets.specs.Be.{be}
 use Rattle.octets.proofs.Laws.{Octets, octets-take, octets-drop, be-bound}
+use Rattle.stores.specs.Stores.{over}
 use Rattle.writer.specs.declared.writing.Written.{Written}
 use Rattle.writer.specs.declared.writing.Written.the-variants as written
+use Rattle.writer.specs.Writing.{lentBy}
 use Rattle.block.specs.Layout.{blockOctets, recordsAt, headOctets, Entry, countOf, lengthAt, entryAt, endAt, entriesFrom}
 use Rattle.block.specs.Making.{EntryFits, All}
 use Rattle.recording.specs.Recording.{recordCheck, wordsAfter}
@@ -29,7 +32,7 @@ use Rattle.playback.specs.Playback.{blocksIn, entriesOfAll, isTrace}
 use Rattle.pcap.specs.File.{Frame, isCapture, framesOf}
 use Rattle.pcap.specs.Written.{Packet, Fits, AllFit, frameIn, framed, ourForm, ourFields}
 use Rattle.pcap.proofs.ReadBack.{file-accepted, file-read}
-use Rattle.exporting.specs.Exporting.{packetBy, captureOf, isWritable, areWritable, recordsOf}
+use Rattle.exporting.specs.Exporting.{packetBy, captureOf, portOf, isWritable, areWritable, recordsOf, canWrite, exportOf, outAfterExport}
 use Rattle.exporting.proofs.Few.{AllOctets, blocks-octets}
 use Rattle.captures.proofs.Again.{taken-again}
 use Rattle.importing.proofs.Tapes.{first-done, all-kept}
@@ -144,3 +147,46 @@ module _ (s : List ℕ) (o : Octets s) (accepted : isTrace s ≡ true) (p : ℕ)
   same-records =
       recorded-entries (replicate blockOctets 0) 0 es again-fits (omega arith)
       ∙ all-kept es (freshTape (replicate blockOctets 0) 0) (taken-again s o accepted)
+
+-- ---- WHAT EXPORT WROTE
+-- the records that recording takes are of ports that there are
+own-port : (e : Entry) (es : List Entry) → recordsCheck freshWords (e ∷ es) ≡ outcome.Done → isPort (e .port) ≡ true
+unfolding recordsCheck
+own-port e es h = done freshWords e (first-done (recordCheck freshWords e) (recordsCheck (wordsAfter freshWords e) es) h .0) .port
+
+port-of-some : (es : List Entry) → recordsCheck freshWords es ≡ outcome.Done → 0 < length es → isPort (portOf es) ≡ true
+port-of-some [] h some = absurd (omega arith)
+port-of-some (e ∷ es) h some = own-port e es h
+
+accepted-by : (trace can small : Bool) (n m : ℕ)
+    → refuse (not trace) (written.Refused Block) (refuse (not can) (written.Refused Export) (refuse small (written.Refused Room) (written.Octets m))) ≡ written.Octets n
+    → (trace ≡ true) × ((can ≡ true) × (m ≡ n))
+unfolding refuse
+accepted-by true true true n m e = absurd (let z : _≡_ {A = ℕ} 0 1 = cc in omega arith)
+accepted-by true true false n m e = (refl, (refl, cc))
+accepted-by true false small n m e = absurd (let z : _≡_ {A = ℕ} 0 1 = cc in omega arith)
+accepted-by false can small n m e = absurd (let z : _≡_ {A = ℕ} 0 1 = cc in omega arith)
+
+-- a trace of octets, and a buffer into which it was written in n octets
+module _ (s : List ℕ) (o : Octets s) (out : List ℕ) (n : ℕ) (wrote : exportOf (length out) s ≡ written.Octets n) where
+  by-tests : (isTrace s ≡ true) × ((canWrite s ≡ true) × (length (captureOf (recordsOf s)) ≡ n))
+  unfolding exportOf
+  by-tests = accepted-by (isTrace s) (canWrite s) (ltb (length out) (length (captureOf (recordsOf s)))) n (length (captureOf (recordsOf s))) wrote
+
+  -- what stands in the buffer's first n octets ..
+  pub capture-first : take n (outAfterExport out s) ≡ captureOf (recordsOf s)
+  capture-first =
+      ap (λ (w : Written). take n (lentBy w out (over out 0 (captureOf (recordsOf s))))) wrote
+      ∙ take-at (captureOf (recordsOf s)) (drop (0 + length (captureOf (recordsOf s))) out) n (by-tests .1 .1)
+
+  -- .. IS A CAPTURE, AND READ ON THE PORT OF THE TRACE'S FIRST RECORD IT GIVES THE RECORDS BACK
+  pub exported-accepted : isCapture (take n (outAfterExport out s)) ≡ true
+  exported-accepted = ap isCapture capture-first ∙ export-accepted s o (by-tests .0) (portOf (recordsOf s)) (by-tests .1 .0)
+
+  pub exported-again : recordsIn (portOf (recordsOf s)) (take n (outAfterExport out s)) ≡ recordsOf s
+  exported-again =
+      ap (recordsIn (portOf (recordsOf s))) capture-first ∙ records-again s o (by-tests .0) (portOf (recordsOf s)) (by-tests .1 .0)
+
+  -- that port is one of the clock's, where there is a record
+  pub exported-port : 0 < length (recordsOf s) → isPort (portOf (recordsOf s)) ≡ true
+  exported-port some = port-of-some (recordsOf s) (taken-again s o (by-tests .0)) some
