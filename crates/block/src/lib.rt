@@ -1,3 +1,4 @@
+#![tactic(auto)]
 // A block of a trace: 512 octets with the messages that arrived, each with its port and time. `making` writes one, `sums` has the sum that its
 // check makes whole. What a block is read and judged by is the crate `judging`, which who only records does not need.
 //

@@ -11,7 +11,7 @@ const PORTS: u8 = 6;
 const MOST: usize = 96;
 
 // The candidates of a card: the first n that it holds.
-#[derive(Drop)]
+#[derive(Clone, Copy)]
 struct Heard {
     n: usize,
     held: [Candidate; MOST],

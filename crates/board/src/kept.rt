@@ -5,7 +5,7 @@ use rank::PortIdentity;
 use slots::Seen;
 
 // How many records of a port are live, and how many of those are candidates.
-#[derive(Drop)]
+#[derive(Clone, Copy)]
 pub struct Records {
     pub live: u64,
     pub candidates: u64,

@@ -1,3 +1,4 @@
+#![tactic(auto)]
 // What the ports keep and how it ranks, as the program `day` tells it: a port's live records, the record of a sender, why a parent
 // is another than before, what each card ranks, and the table of ports. Everything is asked of the engine. No contract can say what
 // is printed, so but for `cards::ranked` its functions have none that fixes an answer: they are proved to end and to stay in
@@ -10,7 +11,7 @@ pub mod kept;
 pub mod table;
 
 // The parent: a clock, the port that hears it, and its wrFlags; port 0 where our own clock leads.
-#[derive(Drop)]
+#[derive(Clone, Copy)]
 pub struct Parent {
     pub clock: u64,
     pub port: u8,

@@ -1,3 +1,4 @@
+#![tactic(auto)]
 // Taking messages by words, as a host names them: one on the port that a word says, or a whole burst in one call, a run of messages, each
 // with its port and time, taken one after another. A message is a row of five words: port, time, where it begins in the octets lent, how
 // many octets it has, and the word that its answer is written to. A burst is refused with 17 where it holds more than 288; then

@@ -20,7 +20,7 @@ const PLACES: usize = 4;
 const MOST: usize = 288;
 
 // The first `len` of four places in a run, in rank order of what lies there. Those past them say nothing.
-#[derive(Drop)]
+#[derive(Clone, Copy)]
 pub struct Places {
     pub len: usize,
     pub at: [usize; PLACES],

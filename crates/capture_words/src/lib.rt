@@ -1,3 +1,4 @@
+#![tactic(auto)]
 // A capture file read piece by piece: the form that its head tells, and what the head of a packet says, put into words that are lent. The number returned is 0,
 // or that of the refusal, 21, and then the words are as they were.
 ghost use Rattle.std.specs.Prelude.{◌≡◌, not, ◌&&◌, eqb};

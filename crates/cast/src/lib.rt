@@ -1,3 +1,4 @@
+#![tactic(auto)]
 // Who is heard on the day that the program `day` tells: two masters, a boundary clock, a tenant's own clock, a looped cable, tenants
 // with endless new names, and two clocks of a tenant that follow each other. Their messages are made here as they stand on the wire, one by one;
 // each is recorded, and the clock takes it from the octets. Beside it the slave port's exchange. All of it is made up, so there is nothing that a
@@ -49,7 +50,7 @@ const WORSE: u8 = 20;
 const FREE: u8 = 128;
 
 // Who announces, on which of our ports, and which grandmaster.
-#[derive(Drop)]
+#[derive(Clone, Copy)]
 struct Speaker {
     clock: u64,
     port: u8,
@@ -59,7 +60,7 @@ struct Speaker {
 }
 
 // An Announce: whose, when in nanoseconds, its sequenceId, and how many octets of a tail it has.
-#[derive(Drop)]
+#[derive(Clone, Copy)]
 struct Said {
     by: Speaker,
     t: u64,
@@ -310,7 +311,7 @@ fn echo(second: u64) -> Said {
 // ---- All that is heard
 
 // What tenants make of a second, behind its beat.
-#[derive(Drop)]
+#[derive(Clone, Copy)]
 enum Trouble {
     Nothing,
     Cable,

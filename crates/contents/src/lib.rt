@@ -1,3 +1,4 @@
+#![tactic(auto)]
 // What a message holds, read from octets: all of it, and part by part.
 //
 // `whole` reads a message of any type; `parts` hands back parts of one: its tail, the data of a TLV, what White Rabbit's TLVs

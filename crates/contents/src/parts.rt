@@ -14,7 +14,7 @@ use tlv::walk::Sound;
 use tlv::wr::{LinkFound, LinkMessage, Suffix};
 
 // Where the data of the first TLV of a type begin in the message, that there is none, or why the message is refused.
-#[derive(Drop)]
+#[derive(Clone, Copy)]
 pub enum TlvRead {
     Found(usize),
     Absent,
@@ -22,7 +22,7 @@ pub enum TlvRead {
 }
 
 // wrFlags of an Announce's suffix, that it has none, or why it is refused.
-#[derive(Drop)]
+#[derive(Clone, Copy)]
 pub enum SuffixRead {
     Flags(u16),
     Absent,
@@ -30,7 +30,7 @@ pub enum SuffixRead {
 }
 
 // The link message of a Signaling, that it has none, or why it is refused.
-#[derive(Drop)]
+#[derive(Clone, Copy)]
 pub enum LinkRead {
     Message(LinkMessage),
     Absent,

@@ -4,7 +4,7 @@ ghost use Rattle.std.specs.Prelude.{◌≡◌};
 ghost use Rattle.contents.specs.Sound.{fixed_bounds, sound_bounds};
 
 // Where the tail of a message begins, and where the message ends; zeros where it is refused.
-#[derive(Drop)]
+#[derive(Clone, Copy)]
 pub struct Bounds {
     pub size: usize,
     pub length: usize,

@@ -12,7 +12,7 @@ use refusal::{Outcome, Refusal};
 use tlv::walk::Next;
 
 // A TLV: where it stands in the message, its type, and how many octets of data stand behind these four octets.
-#[derive(Drop)]
+#[derive(Clone, Copy)]
 pub struct Tlv {
     pub place: u16,
     pub kind: u16,
@@ -20,7 +20,7 @@ pub struct Tlv {
 }
 
 // A TLV of the message, that there is none, or why the message is refused.
-#[derive(Drop)]
+#[derive(Clone, Copy)]
 pub enum Walked {
     Next(Tlv),
     End,

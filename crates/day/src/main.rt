@@ -1,3 +1,4 @@
+#![tactic(auto)]
 // A day on eighteen ports: two masters, a boundary clock, a tenant's own clock, a cable that loops, two floods of ten thousand
 // names, White Rabbit links that come up, a master that falls silent, its echo in a tenant's loop, and the one that takes over. What is announced is made
 // up; every decision, count, delay and offset comes from the proved engine.

@@ -1,3 +1,4 @@
+#![tactic(auto)]
 // What a port of the clock does about the masters that are heard: data sets compared as IEEE 1588-2008 compares them
 // (9.3.4, figures 27 and 28), and the decision of each port (9.3.3, figure 26).
 //
@@ -15,7 +16,7 @@ use refusal::Refusal;
 
 // What the comparison looks at: the grandmaster that a set leads to, in how many steps, who sent the set, and on which
 // port it was received.
-#[derive(Drop)]
+#[derive(Clone, Copy)]
 pub struct DataSet {
     pub grandmaster: Grandmaster,
     pub steps: u16,
@@ -24,7 +25,7 @@ pub struct DataSet {
 }
 
 // The six answers of the comparison of a set A with a set B.
-#[derive(Drop)]
+#[derive(Clone, Copy)]
 pub enum Comparison {
     ABetter,
     BBetter,
@@ -171,7 +172,7 @@ fn by_topology(x: Comparison) -> bool
 }
 
 // A port's best, if it has one.
-#[derive(Drop)]
+#[derive(Clone, Copy)]
 pub enum Erbest {
     Absent,
     Present(Candidate),
@@ -205,7 +206,7 @@ fn nearer(e: Candidate, clock: u64, port: u8, best: Erbest) -> bool
 }
 
 // What a port is told to do: be a master (M), a slave (S) or passive (P), and by which rule.
-#[derive(Drop)]
+#[derive(Clone, Copy)]
 pub enum Decision {
     M1,
     M2,
@@ -218,7 +219,7 @@ pub enum Decision {
 
 // Whose lead all ports follow: our own clock's by its class, our own clock's because nothing that is heard beats it, or that
 // of Ebest.
-#[derive(Drop)]
+#[derive(Clone, Copy)]
 pub enum Lead {
     Class,
     Ours,
@@ -289,7 +290,7 @@ fn rule(own: Grandmaster, list: Ranked, port: u8, best: Erbest) -> Decision
 }
 
 // What deciding answers.
-#[derive(Drop)]
+#[derive(Clone, Copy)]
 pub enum Answer {
     Decided(Decision),
     Refused(Refusal),

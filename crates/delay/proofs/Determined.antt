@@ -12,20 +12,21 @@ use Rattle.delay.specs.declared.Measurement.{Measurement}
 use Rattle.delay.specs.declared.Measurement.TheVariants.{Measured, Refused}
 use Rattle.delay.specs.Answer.{measure_of, code_of}
 use Rattle.delay.proofs.Edges.{latencies, fractions, row10, row11}
+use Rattle.delay.specs.contracts as contracts
 use Rattle.delay.proofs as its
 
 abbrev rest_of : Measurement → ℕ
 rest_of (Measured d o) = o.rest
 rest_of (Refused r) = 0
 
-pub measure_determined : Fixes its.measure.ended its.measure.Reads.Post
+pub measure_determined : Fixes contracts.measure.ended its.measure.Reads.Post
 measure_determined κs a x y v w p q = (p ∙ sym q, refl)
 
-pub in_ns_determined : Fixes its.in_ns.ended its.in_ns.Reads.Post
+pub in_ns_determined : Fixes contracts.in_ns.ended its.in_ns.Reads.Post
 in_ns_determined κs a x y v w p q = (λ i. record { 0 = (p ∙ sym q) i }, refl)
 
 -- 01's rows 10 and 11 have an answer, and not the same one
-module _ (κs : Lfts 0) (a b : Args its.measure.signature κs) (r : Res its.measure.signature κs) (e f : AtExit its.measure.ended κs)
+module _ (κs : Lfts 0) (a b : Args contracts.measure.signature κs) (r : Res contracts.measure.signature κs) (e f : AtExit contracts.measure.ended κs)
     (ten : a.0 ≡ fractions 10 0 (latencies 0 0 0 0) (pos (2 ^ 38))) (eleven : b.0 ≡ fractions 0 1 (latencies 0 0 0 0) (pos (2 ^ 38))) where
   pub not_all_refused : its.measure.Reads.Post κs a r e → r ≡ Refused Range → ⊥
   not_all_refused p q =

@@ -1,3 +1,4 @@
+#![tactic(auto)]
 // Delay and offset of one exchange with a master, exact to 2^-16 of a nanosecond: four stamps, three corrections, four
 // latencies and an asymmetry in, the delay and the offset out. A number outside a limit of the delay section is
 // refused with 14, and nothing else is. Which messages the numbers come from, and steering a clock by the offset, are
@@ -15,26 +16,26 @@ use quotient::Part;
 use refusal::Refusal;
 
 // Nanoseconds times 2^16: corrections, D, the delay.
-#[derive(Drop)]
+#[derive(Clone, Copy)]
 pub struct ScaledNs(pub i64);
 
 // Picoseconds times 2^16: latencies and their sums.
-#[derive(Drop)]
+#[derive(Clone, Copy)]
 pub struct ScaledPs(pub u64);
 
 // The asymmetry, a ratio times 2^40.
-#[derive(Drop)]
+#[derive(Clone, Copy)]
 pub struct Asymmetry(pub i64);
 
 // A time that a message carries: t1 and t4.
-#[derive(Drop)]
+#[derive(Clone, Copy)]
 pub struct Stamp {
     pub seconds: u64,
     pub nanos: u32,
 }
 
 // A time that the slave's own hardware takes, with a fraction of a nanosecond times 2^16: t2 and t3.
-#[derive(Drop)]
+#[derive(Clone, Copy)]
 pub struct FineStamp {
     pub seconds: u64,
     pub nanos: u32,
@@ -43,7 +44,7 @@ pub struct FineStamp {
 
 // Sync leaves the master at t1 and reaches the slave at t2; Delay_Req leaves the slave at t3 and reaches the master
 // at t4.
-#[derive(Drop)]
+#[derive(Clone, Copy)]
 pub struct Stamps {
     pub t1: Stamp,
     pub t2: FineStamp,
@@ -52,7 +53,7 @@ pub struct Stamps {
 }
 
 // The correctionFields of Sync, Follow_Up (0 where there is none) and Delay_Resp.
-#[derive(Drop)]
+#[derive(Clone, Copy)]
 pub struct Corrections {
     pub sync: ScaledNs,
     pub follow: ScaledNs,
@@ -60,7 +61,7 @@ pub struct Corrections {
 }
 
 // The master's latencies for sending and receiving, and the slave's.
-#[derive(Drop)]
+#[derive(Clone, Copy)]
 pub struct Latencies {
     pub mtx: ScaledPs,
     pub mrx: ScaledPs,
@@ -69,7 +70,7 @@ pub struct Latencies {
 }
 
 // All that one exchange gives.
-#[derive(Drop)]
+#[derive(Clone, Copy)]
 pub struct Exchange {
     pub stamps: Stamps,
     pub corrections: Corrections,
@@ -78,14 +79,14 @@ pub struct Exchange {
 }
 
 // Whole seconds, rounded down, and a rest in nanoseconds times 2^16, less than a second.
-#[derive(Drop)]
+#[derive(Clone, Copy)]
 pub struct Offset {
     pub seconds: i64,
     pub rest: u64,
 }
 
 // The delay and the offset, or why there are none.
-#[derive(Drop)]
+#[derive(Clone, Copy)]
 pub enum Measurement {
     Measured(ScaledNs, Offset),
     Refused(Refusal),
@@ -217,7 +218,7 @@ fn numerator(a: Asymmetry) -> u64
 }
 
 // A time, raised by 2^48: whole seconds, and a part in nanoseconds times 2^16 that may be several seconds.
-#[derive(Drop)]
+#[derive(Clone, Copy)]
 struct Time {
     seconds: u64,
     part: u64,
@@ -265,7 +266,7 @@ fn t4(x: Exchange) -> Time
 }
 
 // A difference raised by a power of two, or one outside its limit.
-#[derive(Drop)]
+#[derive(Clone, Copy)]
 enum Span {
     At(u64),
     Out,

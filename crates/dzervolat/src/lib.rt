@@ -1,3 +1,4 @@
+#![tactic(auto)]
 // The engine as a host written in C calls it: include/dzervolat.h says what each call does, in plain words.
 //
 // A call returns 0, or the number of the refusal and, of a 6 or 7, its place above it; then nothing lent has changed. What it answers

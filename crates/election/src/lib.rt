@@ -1,3 +1,4 @@
+#![tactic(auto)]
 // Every port's decision in one call: from the clock's words, our own set and a time, the ranked list of all that eighteen
 // ports hear, and what each port does about it. The first of the list is Ebest, the rest are the backups.
 //
@@ -33,7 +34,7 @@ fn refused(x: Refusal) -> Ranking
 
 // The best candidates that some ports hear, by their places in the words, best first: the first `len` places. One of a port,
 // and no more than four.
-#[derive(Drop)]
+#[derive(Clone, Copy)]
 struct Top {
     len: usize,
     places: [usize; 4],
@@ -283,7 +284,7 @@ pub fn decide_all(
 }
 
 // Whom the clock follows.
-#[derive(Drop)]
+#[derive(Clone, Copy)]
 pub enum Leader {
     Refused(Refusal),
     Ours,

@@ -1,3 +1,4 @@
+#![tactic(auto)]
 // An exchange in eighteen words, in the order of the call `delay` (docs/VECTORS.md), and its delay and offset in three. A word that its field cannot
 // hold is a number outside a limit, as the engine's own limits are: 14.
 ghost use Rattle.std.specs.Prelude.{◌≡◌, ◌+◌, ◌≤◌};

@@ -1,3 +1,4 @@
+#![tactic(auto)]
 // A trace written as a capture file, in the one form that we write: nanoseconds, the highest octet first. A whole trace goes into octets that are lent; or a
 // writer that streams writes the head, and then the packets of one block after another.
 //
@@ -35,7 +36,7 @@ pub const WORDS: usize = 3;
 pub const MOST: usize = 1351;
 
 // The octets that packets have, or they cannot be written.
-#[derive(Drop)]
+#[derive(Clone, Copy)]
 pub enum Weight {
     Unwritable,
     Octets(usize),

@@ -1,3 +1,4 @@
+#![tactic(auto)]
 // A capture file read into a trace: its PTP frames are recorded, without their 14-octet heads, in order, on one port. Other frames, and those that have no
 // whole head, are passed over. A whole file goes into octets that are lent; or a reader that streams hands in one frame after another.
 //
@@ -14,7 +15,7 @@ use refusal::{Outcome, Refusal};
 use writer::writing::Written;
 
 // How many blocks a file's frames come to, or what recording refuses the first of them with.
-#[derive(Drop)]
+#[derive(Clone, Copy)]
 enum Weight {
     Refused(Refusal),
     Blocks(u64),

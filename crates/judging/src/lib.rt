@@ -1,3 +1,4 @@
+#![tactic(auto)]
 // A block of a trace as it is read and judged: its places, and the four tests that it must pass to be replayed, in their order: its check, its
 // layout, its number, its times. Each is a function of its own; `judge` says which fails first. `walking` goes from record to record. Nothing
 // changes: the octets are lent to be read.
@@ -11,21 +12,21 @@ use block::{HEAD, OCTETS, RECORDS};
 pub mod walking;
 
 // What a reader keeps from block to block: the lowest number that the next may have, and the last record's time. Both are 0 before the first.
-#[derive(Drop)]
+#[derive(Clone, Copy)]
 pub struct Reader {
     pub next: u64,
     pub last: u64,
 }
 
 // Whether a block's times fall somewhere, or its last one.
-#[derive(Drop)]
+#[derive(Clone, Copy)]
 pub enum Times {
     Fall,
     Until(u64),
 }
 
 // The test that a block fails first; or it is sound, and what its reader keeps then.
-#[derive(Drop)]
+#[derive(Clone, Copy)]
 pub enum Verdict {
     Check,
     Layout,

@@ -6,7 +6,7 @@ ghost use Rattle.judging.specs.Walking.{record_at, next_record};
 use block::{HEAD, OCTETS, RECORDS};
 
 // A record: when its message arrived, on which port, and where that stands in the block: it begins, has so many octets, and ends.
-#[derive(Drop)]
+#[derive(Clone, Copy)]
 pub struct Place {
     pub time: u64,
     pub port: u8,
@@ -16,7 +16,7 @@ pub struct Place {
 }
 
 // What stands at an octet.
-#[derive(Drop)]
+#[derive(Clone, Copy)]
 pub enum Next {
     Absent,
     Found(Place),

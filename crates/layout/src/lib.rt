@@ -1,3 +1,4 @@
+#![tactic(auto)]
 // The octets of the parts of a message, and their way into a buffer (IEEE 1588-2008, clause 13). Reserved fields are zero.
 //
 // Each number is stored where it belongs, with no copy made first. Nothing is refused here: what is asked of the caller is that

@@ -16,22 +16,23 @@ use Rattle.link.specs.declared.Waits.TheVariants as waits
 use Rattle.link.specs.Machine.{LOCK, is_idle, waits_of, in_state, stepped}
 use Rattle.link.specs.States.{same_state}
 use Rattle.link.proofs.StepLaws.{message_moves}
+use Rattle.link.specs.contracts as contracts
 use Rattle.link.proofs as its
 
 lock_in_present : (s : Settings) (mode : Bool) → (stepped s (in_state Slave Present mode) (Message LOCK)).link.state ≡ SLock
 unfolding stepped
 lock_in_present s mode = refl
 
-pub fresh_determined : Fixes its.fresh.ended its.fresh.Reads.Post
+pub fresh_determined : Fixes contracts.fresh.ended its.fresh.Reads.Post
 fresh_determined κs a x y v w p q = (p ∙ sym q, refl)
 
-pub asked_determined : Fixes its.asked.ended its.asked.Reads.Post
+pub asked_determined : Fixes contracts.asked.ended its.asked.Reads.Post
 asked_determined κs a x y v w p q = (p ∙ sym q, refl)
 
-pub step_determined : Fixes its.step.ended its.step.Reads.Post
+pub step_determined : Fixes contracts.step.ended its.step.Reads.Post
 step_determined κs a x y v w p q = (p ∙ sym q, refl)
 
-module _ (κs : Lfts 0) (a : Args its.step.signature κs) (x : Res its.step.signature κs) (e : AtExit its.step.ended κs) where
+module _ (κs : Lfts 0) (a : Args contracts.step.signature κs) (x : Res contracts.step.signature κs) (e : AtExit contracts.step.ended κs) where
   -- in every state on the way, the message waited for changes the state
   pub never_stands_still : (n : ℕ) (then : Move) → is_idle a.1.0.state ≡ false → waits_of a.1.0.role a.1.0.state ≡ waits.Message n then →
       a.1.1.0 ≡ Message n → its.step.Reads.Post κs a x e → same_state x.link.state a.1.0.state ≡ false

@@ -1,3 +1,4 @@
+#![tactic(auto)]
 // The White Rabbit link (01, "The WR link"): the machine that brings a link up, slave and master. A link is a small value, and
 // a step takes it and an event to the next link, to what is sent, and to the report that the link is on.
 //
@@ -11,14 +12,14 @@ use tlv::form::{CALIBRATE, CALIBRATED, LOCK, LOCKED, MODE_ON, SLAVE_PRESENT};
 use tlv::wr::LinkMessage;
 
 // Which side of the link a port is.
-#[derive(Drop)]
+#[derive(Clone, Copy)]
 pub enum Role {
     Slave,
     Master,
 }
 
 // The states of 003, Table 5. Link on is no state to stay in: the state is IDLE at once.
-#[derive(Drop)]
+#[derive(Clone, Copy)]
 pub enum State {
     Idle,
     Present,
@@ -31,7 +32,7 @@ pub enum State {
 }
 
 // A port's link. Its role is that of the last start.
-#[derive(Drop)]
+#[derive(Clone, Copy)]
 pub struct Link {
     pub role: Role,
     pub state: State,
@@ -41,7 +42,7 @@ pub struct Link {
 
 // A port's settings: config 0 none, 1 master only, 2 slave only, 3 both; whether it needs calibration; and what its
 // CALIBRATE (retry, period) and CALIBRATED (deltaTx, deltaRx) carry.
-#[derive(Drop)]
+#[derive(Clone, Copy)]
 pub struct Settings {
     pub config: u8,
     pub calibrate: bool,
@@ -52,7 +53,7 @@ pub struct Settings {
 }
 
 // What happens to a link. A start comes with the parent's config and mode, a message with its number.
-#[derive(Drop)]
+#[derive(Clone, Copy)]
 pub enum Event {
     Start { config: u8, mode: bool },
     Message(u16),
@@ -62,7 +63,7 @@ pub enum Event {
 }
 
 // What a step sends. The host puts each message into a Signaling.
-#[derive(Drop)]
+#[derive(Clone, Copy)]
 pub enum Sends {
     Nothing,
     One(LinkMessage),
@@ -70,7 +71,7 @@ pub enum Sends {
 }
 
 // What a step answers: the link after it, what is sent, and whether it reports link on.
-#[derive(Drop)]
+#[derive(Clone, Copy)]
 pub struct Stepped {
     pub link: Link,
     pub sends: Sends,
@@ -78,7 +79,7 @@ pub struct Stepped {
 }
 
 // What the rules make of an event. A resend comes with the retry count that it brings.
-#[derive(Drop)]
+#[derive(Clone, Copy)]
 pub enum Move {
     Ignore,
     Enter(Role, State),
@@ -88,7 +89,7 @@ pub enum Move {
 }
 
 // What a state waits for, and the move that it then makes.
-#[derive(Drop)]
+#[derive(Clone, Copy)]
 pub enum Waits {
     Nothing,
     Message(u16, Move),

@@ -1,3 +1,4 @@
+#![tactic(auto)]
 // What a step of a link answers, in words.
 ghost use Rattle.std.specs.Prelude.{◌≡◌};
 ghost use Rattle.link_words.specs.Steps.{sends_words, step_words, taken_code, taken_words};

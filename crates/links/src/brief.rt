@@ -10,7 +10,7 @@ use tlv::form::{CALIBRATE, CALIBRATED, LOCK, LOCKED, MODE_ON, SLAVE_PRESENT};
 
 // The link's word after a step, the number of the first message that it sends, 0 for none, whether CALIBRATED is sent after
 // that, and whether the step reports link on.
-#[derive(Drop)]
+#[derive(Clone, Copy)]
 pub struct Brief {
     pub word: u64,
     pub sends: u64,

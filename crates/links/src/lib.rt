@@ -1,3 +1,4 @@
+#![tactic(auto)]
 // Eighteen links and their settings, one a port, in 72 words that the host lends: four a port, which hold the link, its
 // settings, deltaTx and deltaRx. Zeroed words are eighteen fresh links with config 0, and any words are links.
 //
@@ -31,7 +32,7 @@ const CALIBRATED: u64 = 6;
 const RESP_CALIB_REQ: u64 = 7;
 
 // What an event on a port answers: its step, or a refusal.
-#[derive(Drop)]
+#[derive(Clone, Copy)]
 pub enum Taken {
     Step(Stepped),
     Refused(Refusal),

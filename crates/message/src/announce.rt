@@ -6,7 +6,7 @@ use crate::fields::{ANNOUNCE, Announce, Header};
 use refusal::{Outcome, Refusal};
 use tlv::walk::Sound;
 
-#[derive(Drop)]
+#[derive(Clone, Copy)]
 pub struct Heard {
     pub header: Header,
     pub announce: Announce,
@@ -14,7 +14,7 @@ pub struct Heard {
 }
 
 // An Announce, or the number that refuses it.
-#[derive(Drop)]
+#[derive(Clone, Copy)]
 pub enum Announced {
     Whole(Heard),
     Refused(Refusal),

@@ -4,21 +4,21 @@ ghost use Rattle.octets.specs.Be.{be};
 ghost use Rattle.message.specs.Fields.{fixed_size, identity_at, stamp_of, header_of, announce_of};
 
 // A port of a clock, ten octets.
-#[derive(Drop)]
+#[derive(Clone, Copy)]
 pub struct PortIdentity {
     pub clock: u64,
     pub port: u16,
 }
 
 // 48 bits of seconds, and nanoseconds below 10^9.
-#[derive(Drop)]
+#[derive(Clone, Copy)]
 pub struct Timestamp {
     pub seconds: u64,
     pub nanoseconds: u32,
 }
 
 // What every message begins with. Its type is told by the body, its length by the body and the tail.
-#[derive(Drop)]
+#[derive(Clone, Copy)]
 pub struct Header {
     pub transport: u8,
     pub domain: u8,
@@ -29,7 +29,7 @@ pub struct Header {
     pub interval: i8,
 }
 
-#[derive(Drop)]
+#[derive(Clone, Copy)]
 pub struct Announce {
     pub origin: Timestamp,
     pub utc: i16,
@@ -43,14 +43,14 @@ pub struct Announce {
     pub timesource: u8,
 }
 
-#[derive(Drop)]
+#[derive(Clone, Copy)]
 pub struct DelayResp {
     pub receive: Timestamp,
     pub requester: PortIdentity,
 }
 
 // What stands behind the header, by the type of the message.
-#[derive(Drop)]
+#[derive(Clone, Copy)]
 pub enum Body {
     Sync(Timestamp),
     DelayReq(Timestamp),
@@ -60,7 +60,7 @@ pub enum Body {
     Signaling(PortIdentity),
 }
 
-#[derive(Drop)]
+#[derive(Clone, Copy)]
 pub struct Message {
     pub header: Header,
     pub body: Body,

@@ -1,3 +1,4 @@
+#![tactic(auto)]
 // The six messages of the engine, read from octets (IEEE 1588-2008, clause 13).
 //
 // `fields` has the structs of a message and where their fields stand; `reading` checks the octets lent, in the order

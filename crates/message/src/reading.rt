@@ -8,7 +8,7 @@ use refusal::{Outcome, Refusal};
 use tlv::walk::Fault;
 
 // A message, or the number that refuses it.
-#[derive(Drop)]
+#[derive(Clone, Copy)]
 pub enum Reading {
     Whole(Message),
     Refused(Refusal),

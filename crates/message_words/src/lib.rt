@@ -1,3 +1,4 @@
+#![tactic(auto)]
 // Messages in twenty words, in the order of docs/VECTORS.md: nine for the header, type first, and eleven for the body; those
 // that a type has no field for are zero. Into words, and out of them.
 //

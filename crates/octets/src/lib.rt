@@ -1,3 +1,4 @@
+#![tactic(auto)]
 // Big-endian numbers in octets, read at any place of a slice.
 //
 // Reading never fails: an octet past the end of the slice counts as 0, and the contracts say so. Where the caller

@@ -1,3 +1,4 @@
+#![tactic(auto)]
 // The origin time of a Sync: ten octets, a 48-bit number of seconds and a 32-bit number of nanoseconds.
 //
 // A two-step Sync has them in its Follow_Up, any other in itself. `origin` hands them back as a part of whichever message

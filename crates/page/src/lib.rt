@@ -1,3 +1,4 @@
+#![tactic(auto)]
 // The page that the program `day` is told on: lines of words and numbers, names for the engine's numbers, and what each port
 // heard, hour by hour. It stands apart from `day` because it needs nothing of the engine but the numbers of refusals. No contract
 // can say what is printed, so its functions have none: they are proved to end and to stay in bounds, and what they print is

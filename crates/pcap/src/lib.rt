@@ -1,3 +1,4 @@
+#![tactic(auto)]
 // Classic capture files: a head of 24 octets, and packets one behind the other, each a head of 16 octets and a frame. There are four forms, by the order of a
 // number's octets and by the unit of a time's fraction; everything here is said over both.
 //
@@ -18,7 +19,7 @@ pub const FRAME: usize = 14;
 pub const PTP: u16 = 0x88F7;
 
 // A form: whether the lowest octet of a number comes first, and the nanoseconds of one count of a fraction, 0 where the file's first octets are no magic.
-#[derive(Drop)]
+#[derive(Clone, Copy)]
 pub struct Form {
     pub little: bool,
     pub unit: u16,

@@ -1,3 +1,4 @@
+#![tactic(auto)]
 // Replaying: the messages of a trace are taken again, in their order, each with its port and time. A trace is replayed block by block, for a reader
 // that streams, or as a whole, and then the records begin afresh: the intervals, which are settings, stay. A message that is refused changes nothing, and
 // the replay goes on.
@@ -20,7 +21,7 @@ use refusal::{Outcome, Refusal};
 pub const READER: usize = 2;
 
 // The time of the last record of a trace that was replayed, 0 where it has none.
-#[derive(Drop)]
+#[derive(Clone, Copy)]
 pub enum Replayed {
     Refused(Refusal),
     Until(u64),

@@ -12,14 +12,14 @@ use senders::Asked;
 use slots::Seen;
 
 // A port's last accepted time and its interval's exponent.
-#[derive(Drop)]
+#[derive(Clone, Copy)]
 pub enum Status {
     Refused(Refusal),
     Known(u64, i8),
 }
 
 // What a slot of a port holds.
-#[derive(Drop)]
+#[derive(Clone, Copy)]
 pub enum Looked {
     Refused(Refusal),
     Slot(Seen),

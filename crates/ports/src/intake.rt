@@ -16,7 +16,7 @@ use refusal::{Outcome, Refusal};
 use senders::{Notice, Plan};
 
 // What an Announce is judged by: our domain and clockIdentity, and the magic of White Rabbit's TLVs.
-#[derive(Drop)]
+#[derive(Clone, Copy)]
 pub struct Settings {
     pub domain: u8,
     pub clock: u64,
@@ -24,7 +24,7 @@ pub struct Settings {
 }
 
 // What the port's records are asked about, or why they are not.
-#[derive(Drop)]
+#[derive(Clone, Copy)]
 pub enum Admitted {
     Refused(Refusal),
     Notice(Notice),

@@ -1,3 +1,4 @@
+#![tactic(auto)]
 // Eighteen ports' records in 1764 words that the host lends, 98 a port: `intake` takes an Announce from octets, `asking` gives a port's
 // candidates, its best and what it keeps, `interval` is the announce interval as a setting, `places` tells of candidates by where they
 // lie. Words of zero are a fresh

@@ -1,9 +1,10 @@
+#![tactic(auto)]
 // Products and quotients by shifting, comparing, adding and subtracting alone: the processor of the small line card neither multiplies nor divides.
 // One division by binary digits serves every divisor; a thousandth and the asymmetry's quotient have shorter ways besides, which are exact too.
 ghost use Rattle.std.specs.Prelude.{◌≡◌, ◌+◌, ◌-◌, ◌*◌, ◌/◌, ◌%◌, ◌^◌, ◌<◌, ◌≤◌};
 
 // What a division gives: the quotient, rounded down, and the rest, which is below the divisor.
-#[derive(Drop)]
+#[derive(Clone, Copy)]
 pub struct Part {
     pub whole: u64,
     pub rest: u64,

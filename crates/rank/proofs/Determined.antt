@@ -12,34 +12,35 @@ use denote.Triple.Clauses.{AtExit}
 use denote.Triple.Entry.{Args, Res}
 use Rattle.laws.proofs.Fixes.{Fixes}
 use Rattle.rank.specs.Calls.{ranking_of}
+use Rattle.rank.specs.contracts as contracts
 use Rattle.rank.proofs as its
 
-pub precedes_determined : Fixes its.precedes.ended its.precedes.Reads.Post
+pub precedes_determined : Fixes contracts.precedes.ended its.precedes.Reads.Post
 precedes_determined κs a x y v w p q = (p ∙ sym q, refl)
 
-pub outranks_determined : Fixes its.outranks.ended its.outranks.Reads.Post
+pub outranks_determined : Fixes contracts.outranks.ended its.outranks.Reads.Post
 outranks_determined κs a x y v w p q = (p ∙ sym q, refl)
 
-pub earlier_determined : Fixes its.earlier.ended its.earlier.Reads.Post
+pub earlier_determined : Fixes contracts.earlier.ended its.earlier.Reads.Post
 earlier_determined κs a x y v w p q = (p ∙ sym q, refl)
 
-pub empty_determined : Fixes its.empty.ended its.empty.Reads.Post
+pub empty_determined : Fixes contracts.empty.ended its.empty.Reads.Post
 empty_determined κs a x y v w p q = (p ∙ sym q, refl)
 
-pub holds_determined : Fixes its.holds.ended its.holds.Reads.Post
+pub holds_determined : Fixes contracts.holds.ended its.holds.Reads.Post
 holds_determined κs a x y v w p q = (p ∙ sym q, refl)
 
-pub is_ranked_determined : Fixes its.is_ranked.ended its.is_ranked.Reads.Post
+pub is_ranked_determined : Fixes contracts.is_ranked.ended its.is_ranked.Reads.Post
 is_ranked_determined κs a x y v w p q = (p ∙ sym q, refl)
 
-pub merge_determined : Fixes its.merge.ended its.merge.Reads.Post
+pub merge_determined : Fixes contracts.merge.ended its.merge.Reads.Post
 merge_determined κs a x y v w p q = (p ∙ sym q, refl)
 
 -- `rank`, whose contract is read in the logic of its walk: what allows x and y together says that they are equal
 module _ {M : Type 1} {𝓤 : Ura M} (𝓛 : Logic 𝓤) (mem : Memory → SProp 𝓤) (run : Routine → Fun 𝓤) (κs : Lfts 1)
-    (a : Args its.rank.signature κs) (x y : Res its.rank.signature κs) (e f : AtExit its.rank.ended κs) where
-  abbrev Allows : Res its.rank.signature κs → AtExit its.rank.ended κs → SProp 𝓤
-  Allows = (its.rank.clauses 𝓛 mem run κs a).ensures tt
+    (a : Args contracts.rank.signature κs) (x y : Res contracts.rank.signature κs) (e f : AtExit contracts.rank.ended κs) where
+  abbrev Allows : Res contracts.rank.signature κs → AtExit contracts.rank.ended κs → SProp 𝓤
+  Allows = (contracts.rank.clauses 𝓛 mem run κs a).ensures tt
 
   pub rank_determined : ent 𝓤 (sep 𝓤 (Allows x e) (Allows y f)) (fact 𝓤 (x ≡ y))
   rank_determined =

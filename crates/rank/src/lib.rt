@@ -1,3 +1,4 @@
+#![tactic(auto)]
 // Candidates, ranked. A candidate is what a card knows of one master that it hears on one port. Rank order
 // sorts candidates; a ranked list holds the best candidate of each port, in rank order, cut after four.
 // Ranked lists merge, in any order and any grouping, to the ranked list of everything that was heard.
@@ -19,14 +20,14 @@ const PLACES: usize = 4;
 const MOST: usize = 288;
 
 // The ten octets that name a port of a clock.
-#[derive(Drop)]
+#[derive(Clone, Copy)]
 pub struct PortIdentity {
     pub clock: u64,
     pub port: u16,
 }
 
 // A grandmaster as it announces itself: its quality, and its clockIdentity.
-#[derive(Drop)]
+#[derive(Clone, Copy)]
 pub struct Grandmaster {
     pub priority1: u8,
     pub class: u8,
@@ -37,7 +38,7 @@ pub struct Grandmaster {
 }
 
 // What a card knows of one master: the ten keys of rank order, and nothing else.
-#[derive(Drop)]
+#[derive(Clone, Copy)]
 pub struct Candidate {
     pub grandmaster: Grandmaster,
     pub steps: u16,
@@ -114,7 +115,7 @@ pub fn earlier(a: Candidate, b: Candidate) -> bool
 }
 
 // A ranked list: the first `len` of the slots. The slots past them say nothing.
-#[derive(Drop)]
+#[derive(Clone, Copy)]
 pub struct Ranked {
     pub len: usize,
     pub slots: [Candidate; PLACES],
@@ -289,7 +290,7 @@ pub fn is_ranked(r: Ranked) -> bool
 }
 
 // What ranking and merging answer: done and the list, or the refusal and an empty list.
-#[derive(Drop)]
+#[derive(Clone, Copy)]
 pub struct Ranking {
     pub outcome: Outcome,
     pub list: Ranked,

@@ -1,3 +1,4 @@
+#![tactic(auto)]
 // Recording: messages go, in the order of their arrival, into blocks of 512 octets, each filled while the next record fits. The host lends the open
 // block and three words; zeroed they are a fresh recording, whose blocks are numbered from 0. A record that no longer fits closes the
 // block, which comes out, and opens the next.
@@ -16,7 +17,7 @@ use refusal::{Outcome, Refusal};
 pub const WORDS: usize = 3;
 
 // What became of a message: refused, in the open block, or in a new one while the one before it came out.
-#[derive(Drop)]
+#[derive(Clone, Copy)]
 pub enum Recorded {
     Refused(Refusal),
     Kept,

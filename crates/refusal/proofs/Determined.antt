@@ -2,16 +2,17 @@
 -- contract that said less would not prove these.
 use mathlib.Core.Path.{◌∙◌, refl, sym}
 use Rattle.laws.proofs.Fixes.{Fixes}
+use Rattle.refusal.specs.contracts as contracts
 use Rattle.refusal.proofs as its
 
-pub is_port_determined : Fixes its.is_port.ended its.is_port.Reads.Post
+pub is_port_determined : Fixes contracts.is_port.ended its.is_port.Reads.Post
 is_port_determined κs a x y v w p q = (p ∙ sym q, refl)
 
-pub number_determined : Fixes its.number.ended its.number.Reads.Post
+pub number_determined : Fixes contracts.number.ended its.number.Reads.Post
 number_determined κs a x y v w p q = (p ∙ sym q, refl)
 
-pub answer_determined : Fixes its.answer.ended its.answer.Reads.Post
+pub answer_determined : Fixes contracts.answer.ended its.answer.Reads.Post
 answer_determined κs a x y v w p q = (p ∙ sym q, refl)
 
-pub code_determined : Fixes its.code.ended its.code.Reads.Post
+pub code_determined : Fixes contracts.code.ended its.code.Reads.Post
 code_determined κs a x y v w p q = (p ∙ sym q, refl)

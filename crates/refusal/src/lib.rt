@@ -1,3 +1,4 @@
+#![tactic(auto)]
 // The numbers that refuse. A call that cannot be answered says why by one of these, and nothing that was
 // lent to it has changed. Which of them a call gives, and in which order it looks, is said where the call is.
 ghost use Rattle.std.specs.Prelude.{◌≡◌};
@@ -18,7 +19,7 @@ pub fn is_port(p: u8) -> bool
 pub const SECOND_NANOS: u32 = 1_000_000_000;
 
 // The table's twenty-two rows, by the names it gives them. What refuses a TLV says where in the message it stands.
-#[derive(Drop)]
+#[derive(Clone, Copy)]
 pub enum Refusal {
     Short,
     Version,
@@ -112,7 +113,7 @@ pub fn answer(x: Refusal) -> u64
 }
 
 // What a call answers that either does its work or refuses.
-#[derive(Drop)]
+#[derive(Clone, Copy)]
 pub enum Outcome {
     Done,
     Refused(Refusal),

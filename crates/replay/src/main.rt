@@ -1,3 +1,4 @@
+#![tactic(auto)]
 // Replays a trace: reads it from standard input block by block, takes its messages again on a fresh clock, and prints what each port is to do at the last
 // record's time, or at 0 where the trace is empty. Where a block's check, layout, number or times are wrong it prints `refused 20` alone.
 //
@@ -29,7 +30,7 @@ fn own() -> Grandmaster {
 }
 
 // What standard input brought next: its end, a block that was replayed, or one that is refused.
-#[derive(Drop)]
+#[derive(Clone, Copy)]
 enum Came {
     End,
     Block,

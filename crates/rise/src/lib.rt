@@ -1,3 +1,4 @@
+#![tactic(auto)]
 // A White Rabbit link coming up on the slave's side, as the program `day` tells it: each event is a step of the engine's link, and what it
 // sends is counted. What happens is made up, so there is nothing that a contract could hold it to: its functions are proved to end
 // and to stay in bounds.
@@ -8,7 +9,7 @@ use tlv::form::{CALIBRATE, CALIBRATED, LOCK, MODE_ON};
 const NANOS: u64 = refusal::SECOND_NANOS as u64;
 
 // How a link came up, and the link.
-#[derive(Drop)]
+#[derive(Clone, Copy)]
 struct Rise {
     link: Link,
     events: u64,

@@ -1,3 +1,4 @@
+#![tactic(auto)]
 // One sender's record, and what an Announce does to a port's records, over plain values.
 //
 // A port keeps sixteen records. A record is live while its newest receipt lies in the window, and its sender is a candidate
@@ -17,7 +18,7 @@ use refusal::Refusal;
 pub const SLOTS: usize = 16;
 
 // What is kept of an Announce: who sent it, its number, and the data that a candidate is made of.
-#[derive(Drop)]
+#[derive(Clone, Copy)]
 pub struct Notice {
     pub sender: PortIdentity,
     pub sequence: u16,
@@ -28,7 +29,7 @@ pub struct Notice {
 
 // What a slot holds: the last Announce of a sender and its two latest receipts. An empty slot has no receipts; where
 // there is one, `older` is 0.
-#[derive(Drop)]
+#[derive(Clone, Copy)]
 pub struct Record {
     pub notice: Notice,
     pub receipts: u16,
@@ -37,14 +38,14 @@ pub struct Record {
 }
 
 // What an Announce is to do to its port.
-#[derive(Drop)]
+#[derive(Clone, Copy)]
 pub enum Plan {
     Refuse(Refusal),
     Put(usize, Record),
 }
 
 // What asking for a candidate gives.
-#[derive(Drop)]
+#[derive(Clone, Copy)]
 pub enum Asked {
     Refused(Refusal),
     Absent,

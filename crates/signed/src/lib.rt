@@ -1,3 +1,4 @@
+#![tactic(auto)]
 // Signed numbers at the edge of unsigned code. Code that adds and compares is shortest over unsigned numbers, so a
 // signed number is raised by a fixed amount on its way in, and on its way out it is a difference of two numbers.
 // What floors and limits are is said in specs/, and the laws that proofs over signed numbers use are in proofs/.

@@ -1,3 +1,4 @@
+#![tactic(auto)]
 // The records of one port in 98 words that the host lends: the last accepted time, the interval, and sixteen records of six
 // words each (specs/Words has the layout). The fields fill their words, so any words are a port, and words of zero
 // are a port that has heard nothing.
@@ -19,14 +20,14 @@ use senders::{Asked, Notice, Plan, Record, SLOTS};
 pub const WORDS: usize = 98;
 
 // What a slot is looked for by: the record of a sender, or a place that is empty or expired.
-#[derive(Drop)]
+#[derive(Clone, Copy)]
 pub enum Sought {
     Of(PortIdentity),
     Free(u64, u64),
 }
 
 // What looking into a slot shows.
-#[derive(Drop)]
+#[derive(Clone, Copy)]
 pub enum Seen {
     Empty,
     Held(Record),

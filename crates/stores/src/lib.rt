@@ -1,3 +1,4 @@
+#![tactic(auto)]
 // Octets stored into a buffer that is lent: numbers, the highest octet first, and runs of octets. What the octets mean is left to
 // the crates that store them.
 //

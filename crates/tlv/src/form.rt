@@ -6,21 +6,21 @@ ghost use Rattle.std.specs.Prelude.{◌≡◌};
 ghost use Rattle.tlv.specs.Walk.{size_at, Fits};
 ghost use Rattle.tlv.specs.Form.{wr_form, HasForm, data_octets, is_misfit, numbered, misfit_by, is_suffix};
 
-#[derive(Drop)]
+#[derive(Clone, Copy)]
 pub struct Form {
     pub kind: u16,
     pub six: u64,
 }
 
 // How many octets of data a message has, by its number.
-#[derive(Drop)]
+#[derive(Clone, Copy)]
 pub enum DataSize {
     Octets(u16),
     Unlisted,
 }
 
 // The number of a TLV in White Rabbit form; any other TLV has none.
-#[derive(Drop)]
+#[derive(Clone, Copy)]
 pub enum Numbered {
     Number(u16),
     Other,

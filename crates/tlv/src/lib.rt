@@ -1,3 +1,4 @@
+#![tactic(auto)]
 // The TLVs behind the fixed part of a message.
 //
 // `form` knows a TLV in White Rabbit form: which message it is, and whether its data have the right size. `walk` goes

@@ -7,14 +7,14 @@ ghost use Rattle.tlv.specs.Faults.{later_of, fault_of, sound_of};
 use crate::form;
 
 // Where a TLV ends, or that no whole TLV of even length stands there.
-#[derive(Drop)]
+#[derive(Clone, Copy)]
 pub enum Next {
     At(usize),
     Bad,
 }
 
 // What a walk looks for: a TLV of a type, a suffix or a link message under a magic.
-#[derive(Drop)]
+#[derive(Clone, Copy)]
 pub enum Sought {
     OfType(u16),
     Suffix(u16),
@@ -23,7 +23,7 @@ pub enum Sought {
 
 // What is wrong with a tail, and where: it breaks off into no whole TLV of even length, or a known WR message has
 // data of a wrong size.
-#[derive(Drop)]
+#[derive(Clone, Copy)]
 pub enum Fault {
     Sound,
     Broken(usize),
@@ -32,7 +32,7 @@ pub enum Fault {
 
 // Where the first TLV that is looked for stands in a tail in which nothing is wrong, its end where it has none; or that
 // something is.
-#[derive(Drop)]
+#[derive(Clone, Copy)]
 pub enum Sound {
     FirstAt(usize),
     Faulty,

@@ -4,14 +4,14 @@ ghost use Rattle.std.specs.Prelude.{◌≡◌};
 ghost use Rattle.tlv.specs.Wr.{suffix_as, wr_flags_of};
 
 // The suffix of an Announce, or that it has none.
-#[derive(Drop)]
+#[derive(Clone, Copy)]
 pub enum Suffix {
     Flags(u16),
     Absent,
 }
 
 // The six messages that bring a link up, with what they carry.
-#[derive(Drop)]
+#[derive(Clone, Copy)]
 pub enum LinkMessage {
     SlavePresent,
     Lock,
@@ -21,7 +21,7 @@ pub enum LinkMessage {
     ModeOn,
 }
 
-#[derive(Drop)]
+#[derive(Clone, Copy)]
 pub enum LinkFound {
     Message(LinkMessage),
     Absent,

@@ -1,3 +1,4 @@
+#![tactic(auto)]
 // What recording, replaying and looking into a block answer, put into words that are lent: the number returned is 0, or that of the refusal, and then the
 // words are as they were.
 ghost use Rattle.std.specs.Prelude.{◌≡◌};

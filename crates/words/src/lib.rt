@@ -1,3 +1,4 @@
+#![tactic(auto)]
 // How single numbers lie in words of 64 bits that a host written in C lends: signed numbers as their two's complement, a port
 // as itself. The crates beside this one pack whole values: candidates, messages, link steps and exchanges.
 //

@@ -1,3 +1,4 @@
+#![tactic(auto)]
 // White Rabbit's messages, built: the TLVs of the six link messages and the suffix of an Announce, ready to be a tail,
 // and a Signaling with one link message in one call.
 //
@@ -16,7 +17,7 @@ use writer::writing::Written;
 mod digits;
 
 // A TLV: the first `size` of its octets, the rest zero. The largest, CALIBRATED, has all 28.
-#[derive(Drop)]
+#[derive(Clone, Copy)]
 pub struct WrTlv {
     pub octets: [u8; 28],
     pub size: usize,

@@ -10,7 +10,7 @@ use message::fields::{Body, Message, Timestamp};
 use refusal::{Outcome, Refusal};
 
 // How many octets the message has that was written, or why it was refused.
-#[derive(Drop)]
+#[derive(Clone, Copy)]
 pub enum Written {
     Octets(usize),
     Refused(Refusal),

@@ -1,0 +1,17 @@
+-- `walk::first_fault` meets its contract: along the walk neither the first break nor the first misfit changes.
+-- a turn's step
+-- the walk is at its end: nothing broke off, and the first misfit is the one so far
+use Prim.Native.Nat.{◌-◌, ◌≤◌}
+use mathlib.Core.Path.{◌≡◌}
+use lib.ListN.{length}
+use Rattle.tlv.specs.Walk.{broken}
+use Rattle.tlv.specs.Form.{misfit_at}
+use Rattle.tlv.specs.Faults.{misfit}
+use Rattle.tlv.proofs.FaultLaws.{first_so_far}
+use Rattle.tlv.proofs.walk.first_fault.Given as goal
+
+abbrev pub invariant-loop-at : goal.invariant-loop-at
+invariant-loop-at l = (l.at ≤ length l.t) × (broken l.t l.at ≡ broken l.t 0) × (first_so_far (misfit_at l.magic l.t) l.t l.misfit l.at ≡ misfit l.magic l.t 0)
+
+abbrev pub decreases-loop-at : goal.decreases-loop-at
+decreases-loop-at l = length l.t - l.at

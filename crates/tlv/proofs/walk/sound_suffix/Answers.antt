@@ -1,0 +1,103 @@
+-- `walk::sound_suffix` meets its contract: along the walk neither the first break nor the first misfit nor the first
+-- suffix changes.
+-- a turn's step
+-- whether the turn's TLV is a misfit, and what that says of the first one
+-- what holds after a turn, where what was found so far has become what the turn's TLV makes of it
+use Prim.Native.Nat.{ℕ}
+use mathlib.Core.Path.{◌≡◌, refl, sym, ap, ◌∙◌}
+use native.Mathlib.Omega.{arith}
+use borrow.Author.Tests.{eq-eqb}
+use lib.Dec.{ltb}
+use lib.ListN.{length}
+use Rattle.refusal.proofs.Choice.{either}
+use Rattle.refusal.specs.Choice.{pick}
+use Rattle.tlv.specs.Walk.{next_of, broken, first}
+use Rattle.tlv.specs.Form.{misfit_at, is_suffix, suffix_at}
+use Rattle.tlv.specs.Faults.{whole, misfit, later_of, sound_of}
+use Rattle.tlv.specs.declared.walk.Next.TheVariants.{At}
+use Rattle.tlv.specs.declared.walk.Sound.TheVariants.{FirstAt, Faulty}
+use Rattle.tlv.proofs.WalkLaws.{next_fits, next_whole, next_size, walk_end, walk_bad, walk_more}
+use Rattle.tlv.proofs.FaultLaws.{carried, later_inside, settled, misfit_by_lem, lt_eqb}
+use Rattle.tlv.proofs.walk.sound_suffix.Goals as goal
+
+stepped : (c : goal.In-At) → next_of c.args.t.now c.loop-at.at ≡ At c.in-At.p
+stepped c =
+    sym c.step.ensures ∙ c.in-At.is
+
+turned : (c : tie.After-is-suffix invariant-loop decreases-loop) {so_far : ℕ} → let k = c.before.before.before.before in let l = k.before.before.before.before.before in
+    let a = l.before.before.args in
+    so_far ≡ later_of (length a.t.now) l.loop.suffix l.loop.at c.is-suffix.result
+    → invariant-loop a.t.now a.magic 0 0 so_far k.before.p.given.0.0
+unfolding suffix_at
+turned c e =
+    let e1 = c.before in
+    let m = e1.before in
+    let x = m.before in
+    let k = x.before in
+    let i = k.before.before.before.before in
+    let l = i.before in
+    let a = l.before.before.args in
+    let s = c.is-suffix.ensures ∙ ap is_suffix x.number_at.ensures in (
+      (next_fits _ _ (stepped k)).1,
+      sym (walk_more _ _ _ _ _ _ i.loop-test.true (stepped k)) ∙ l.loop.invariant.1,
+      rw e1.if1.false at (turn m),
+      rw e (later_inside (length a.t.now) l.loop.suffix l.loop.at c.is-suffix.result l.loop.invariant.3 i.loop-test.true),
+      rw (e, s) (carried (suffix_at a.magic a.t.now) a.t.now l.loop.at _ l.loop.suffix i.loop-test.true (stepped k)) ∙ l.loop.invariant.4,
+    )
+
+pub returns-in_default : goal.returns-in_default
+unfolding sound_of
+returns-in_default c =
+    let h = c.loop-at-test.true in
+    let b : broken c.args.t.now 0 ≡ c.loop-at.at =
+    sym c.loop-at.invariant.1 ∙ walk_bad _ _ _ _ _ h (sym c.step.ensures ∙ c.in_default.is) in
+    rw (b, lt_eqb _ _ h)
+
+pub overflow_sub-l : goal.overflow_sub-l
+overflow_sub-l c =
+    let n = next_fits _ _ (stepped c) in omega arith
+
+pub overflow_sub-l-in-loop-at : goal.overflow_sub-l-in-loop-at
+overflow_sub-l-in-loop-at c =
+    let n = next_fits _ _ (stepped c) in omega arith
+
+pub number_at-x-requires-clause-fits : goal.number_at-x-requires-clause-fits
+number_at-x-requires-clause-fits c =
+    next_whole _ _ (stepped c)
+
+pub number_at-x-requires-clause-l_value : goal.number_at-x-requires-clause-l_value
+number_at-x-requires-clause-l_value c =
+    next_size _ _ (stepped c)
+
+pub returns-then-misfits : goal.returns-then-misfits
+unfolding sound_of
+returns-then-misfits c =
+    rw (← (let it : let a = c.args in pick c.misfits.result c.loop-at.at (misfit a.magic a.t.now c.in-At.p) ≡ misfit a.magic a.t.now 0 = rw ((let it : let a = c.args in c.misfits.result ≡ misfit_at a.magic a.t.now c.loop-at.at = misfit_by_lem _ _ _ c.number_at-x.ensures (next_size _ _ ((let it : next_of c.args.t.now c.loop-at.at ≡ At c.in-At.p = sym c.step.ensures ∙ c.in-At.is in it))) c.misfits.ensures in it)) (sym (walk_more _ _ _ _ _ _ c.loop-at-test.true ((let it : next_of c.args.t.now c.loop-at.at ≡ At c.in-At.p = sym c.step.ensures ∙ c.in-At.is in it))) ∙ c.loop-at.invariant.2) in it), c.if-misfits.true, lt_eqb _ _ c.loop-at-test.true) (sym (either (whole c.args.t.now) Faulty))
+
+pub loop-at-smaller-then-is_suffix : goal.loop-at-smaller-then-is_suffix
+loop-at-smaller-then-is_suffix c =
+    let n = next_fits _ _ ((let it : next_of c.args.t.now c.loop-at.at ≡ At c.in-At.p = sym c.step.ensures ∙ c.in-At.is in it)) in omega arith
+
+pub loop-at-preserved-then-is_suffix : goal.loop-at-preserved-then-is_suffix
+loop-at-preserved-then-is_suffix c =
+    turned c.before.before (rw c.if-is_suffix.true c.later-suffix.ensures)
+
+pub loop-at-smaller : goal.loop-at-smaller
+loop-at-smaller c =
+    let n = next_fits _ _ ((let it : next_of c.args.t.now c.loop-at.at ≡ At c.in-At.p = sym c.step.ensures ∙ c.in-At.is in it)) in omega arith
+
+pub loop-at-preserved : goal.loop-at-preserved
+loop-at-preserved c =
+    turned c.before (rw c.if-is_suffix.false (sym (either (ltb c.loop-at.suffix (length c.args.t.now)) c.loop-at.suffix)))
+
+pub returns : goal.returns
+unfolding sound_of
+returns c =
+    let t = c.args.t.now in
+    let magic = c.args.magic in
+    let e : c.loop-at.at ≡ length t = omega arith in
+    let b : broken t 0 ≡ length t = sym c.loop-at.invariant.1 ∙ rw e (walk_end _ _ _ _) in
+    let m : misfit magic t 0 ≡ length t = sym c.loop-at.invariant.2 ∙ rw e (walk_end _ _ _ _) in
+    let n : first (suffix_at magic t) t c.loop-at.at ≡ length t = rw e (walk_end _ _ _ _) in
+    let s = settled _ _ c.loop-at.invariant.3 ∙ rw n at c.loop-at.invariant.4 in
+    rw (b, m, eq-eqb _ _ refl) (ap FirstAt s)
