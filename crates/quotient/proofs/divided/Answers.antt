@@ -1,13 +1,35 @@
 -- `divided` meets its contract: every digit doubles what n was, less the digits of the quotient so far times the divisor.
--- what holds of the divisor in its high place
--- half of the divisor in its high place
-use Rattle.std.proofs.Common.{◌≡◌, ℕ, ◌+◌, ◌-◌, ◌*◌, ◌/◌, ◌%◌, ◌^◌, sym, subst, arith}
+use Rattle.std.proofs.Common.{◌≡◌, ℕ, ◌+◌, ◌-◌, ◌*◌, ◌/◌, ◌%◌, ◌^◌, ◌<◌, ◌∙◌, ap, sym, subst, div-mul-le_self, arith}
 use native.Mathlib.Nat.{mod-eq-sub-div-mul}
 use Rattle.quotient.proofs.Laws.{Dealt, begun, more, shifted, high_even, at_most_once, rest_is, whole_is}
 use Rattle.quotient.proofs.divided.Goals as goal
 
+-- half of the divisor in its high place
 abbrev half_of : ℕ → ℕ → ℕ
 half_of q digits = q * 2 ^ digits % 2 ^ 64 / 2
+
+-- what is left when the loop is done, over the divisor's place D and its double half
+module _ (n q D half v : ℕ) (is : 2 * half ≡ q * D) (fits : v < 2 ^ 64) (lt : v < 2 * half) where
+  back : v / D * D % 2 ^ 64 ≡ v / D * D
+  back = let l = div-mul-le_self v D in shifted (v / D) D (omega arith)
+
+  top : 2 * half - 1 + 1 ≡ q * D
+  top = omega arith
+
+  below : v < q * D
+  below = omega arith
+
+ended : (n q digits half v : ℕ) → 2 * half ≡ q * 2 ^ digits → v < 2 ^ 64 → v < 2 * half → Dealt n (2 * half - 1) digits v
+    → (v - v / 2 ^ digits * 2 ^ digits % 2 ^ 64 ≡ n / q) × (v / 2 ^ digits ≡ n % q)
+ended n q digits half v is fits lt d =
+    let D = 2 ^ digits in
+    let t = top n q D half v is fits lt in
+    let b = below n q D half v is fits lt in
+    let w = whole_is n q D (2 * half - 1) v d.t t d.is d.top b in
+    let r = rest_is n q D (2 * half - 1) v d.t t d.is d.top b in
+    let s = mod-eq-sub-div-mul v D in
+    let k = back n q D half v is fits lt in
+    (ap (λ (x : ℕ). v - x) k ∙ sym s ∙ w, r)
 
 pub loop-i-init : goal.loop-i-init
 loop-i-init c =
@@ -34,9 +56,8 @@ loop-i-preserved c =
 pub returns : goal.returns
 returns c =
     let a = c.args in
-    let d = dealt c in
-    let w = whole_is a.n a.q (D c) (m c) c.loop-i.v d.t (top c) d.is d.top (below c) in
-    let r = rest_is a.n a.q (D c) (m c) c.loop-i.v d.t (top c) d.is d.top (below c) in
-    let s = mod-eq-sub-div-mul c.loop-i.v (D c) in
-    let b = back c in
-    (omega arith, r)
+    let l = c.loop-i in
+    let half = half_of a.q a.digits in
+    let e : a.digits - l.i ≡ a.digits = omega arith in
+    ended a.n a.q a.digits half l.v l.invariant.0.is (omega arith) l.invariant.2
+    (subst (λ (j : ℕ). Dealt a.n (2 * half - 1) j l.v) e l.invariant.1)
