@@ -10,7 +10,6 @@ use lib.Arith.{lt_of_le-ne}
 use lib.Dec.{eqb, leb}
 use lib.ListN.{length}
 use Rattle.laws.proofs.Bools.{decided}
-use Rattle.octets.specs.Be.{be}
 use Rattle.refusal.specs.Choice.{pick}
 use Rattle.tlv.specs.Walk.{next_of, size_at, Fits, after, walk_by, walk, first, Reached, start, next}
 use Rattle.tlv.specs.declared.walk.Next.{Next}

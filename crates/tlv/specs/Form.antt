@@ -1,5 +1,5 @@
 -- TLVs in White Rabbit form (01, "Octets of a message": "WR TLV (001, Table 5)").
-use Rattle.std.specs.Prelude.{ℕ, ◌+◌, ◌*◌, List, Bool, true, false, not, ◌&&◌, eqb, leb}
+use Rattle.std.specs.Prelude.{ℕ, ◌+◌, ◌*◌, List, Bool, false, not, ◌&&◌, eqb, leb}
 use Rattle.octets.specs.Be.{be}
 use Rattle.refusal.specs.Choice.{pick}
 use Rattle.tlv.specs.Walk.{type_at, size_at}

@@ -1,5 +1,4 @@
 -- `form::number_at` meets its contract: a TLV of the form has eight octets or more behind its length.
--- where the test is taken, the TLV has the form
 use mathlib.Core.Path.{◌≡◌, sym, ap, ◌∙◌}
 use mathlib.Core.Bool.{true}
 use native.Mathlib.Omega.{arith}
@@ -8,6 +7,7 @@ use Rattle.tlv.specs.declared.form.Numbered.TheVariants.{Number}
 use Rattle.tlv.proofs.FormLaws.{of_form}
 use Rattle.tlv.proofs.form.number_at.Goals as goal
 
+-- where the test is taken, the TLV has the form
 formed : (c : goal.Then-has_form) → let a = c.args in HasForm (wr_form a.magic) a.t.now a.at ≡ true
 formed c =
     rw (← c.wr_form.ensures) (sym c.has_form.ensures ∙ c.if-has_form.true)

@@ -1,6 +1,4 @@
 -- `walk::first_fault` meets its contract: along the walk neither the first break nor the first misfit changes.
--- a turn's step
--- the walk is at its end: nothing broke off, and the first misfit is the one so far
 use mathlib.Core.Path.{◌≡◌, refl, sym, ◌∙◌}
 use native.Mathlib.Omega.{arith}
 use borrow.Author.Tests.{lt-ltb, le-ltb, eq-eqb}
@@ -15,6 +13,7 @@ use Rattle.tlv.proofs.WalkLaws.{next_fits, next_whole, next_size, walk_end, walk
 use Rattle.tlv.proofs.FaultLaws.{carried, misfit_by_lem, lt_eqb}
 use Rattle.tlv.proofs.walk.first_fault.Goals as goal
 
+-- a turn's step
 stepped : (c : goal.In-At) → next_of c.args.t.now c.loop-at.at ≡ At c.in-At.p
 stepped c =
     sym c.step.ensures ∙ c.in-At.is

@@ -1,6 +1,4 @@
 -- `walk::first_fault` meets its contract: along the walk neither the first break nor the first misfit changes.
--- a turn's step
--- the walk is at its end: nothing broke off, and the first misfit is the one so far
 use Prim.Native.Nat.{◌-◌, ◌≤◌}
 use mathlib.Core.Path.{◌≡◌}
 use lib.ListN.{length}

@@ -1,9 +1,8 @@
 -- `walk::sound_suffix` meets its contract: along the walk neither the first break nor the first misfit nor the first
 -- suffix changes.
--- a turn's step
--- whether the turn's TLV is a misfit, and what that says of the first one
--- what holds after a turn, where what was found so far has become what the turn's TLV makes of it
-use Prim.Native.Nat.{ℕ}
+use Prim.Native.Nat.{ℕ, ◌<◌, ◌≤◌}
+use mathlib.Core.List.{List}
+use mathlib.Core.Bool.{true, false}
 use mathlib.Core.Path.{◌≡◌, refl, sym, ap, ◌∙◌}
 use native.Mathlib.Omega.{arith}
 use borrow.Author.Tests.{eq-eqb}
@@ -17,33 +16,29 @@ use Rattle.tlv.specs.Faults.{whole, misfit, later_of, sound_of}
 use Rattle.tlv.specs.declared.walk.Next.TheVariants.{At}
 use Rattle.tlv.specs.declared.walk.Sound.TheVariants.{FirstAt, Faulty}
 use Rattle.tlv.proofs.WalkLaws.{next_fits, next_whole, next_size, walk_end, walk_bad, walk_more}
-use Rattle.tlv.proofs.FaultLaws.{carried, later_inside, settled, misfit_by_lem, lt_eqb}
+use Rattle.tlv.proofs.FaultLaws.{first_so_far, carried, later_inside, settled, misfit_by_lem, lt_eqb}
 use Rattle.tlv.proofs.walk.sound_suffix.Goals as goal
 
+-- a turn's step
 stepped : (c : goal.In-At) → next_of c.args.t.now c.loop-at.at ≡ At c.in-At.p
 stepped c =
     sym c.step.ensures ∙ c.in-At.is
 
-turned : (c : tie.After-is-suffix invariant-loop decreases-loop) {so_far : ℕ} → let k = c.before.before.before.before in let l = k.before.before.before.before.before in
-    let a = l.before.before.args in
-    so_far ≡ later_of (length a.t.now) l.loop.suffix l.loop.at c.is-suffix.result
-    → invariant-loop a.t.now a.magic 0 0 so_far k.before.p.given.0.0
-unfolding suffix_at
-turned c e =
-    let e1 = c.before in
-    let m = e1.before in
-    let x = m.before in
-    let k = x.before in
-    let i = k.before.before.before.before in
-    let l = i.before in
-    let a = l.before.before.args in
-    let s = c.is-suffix.ensures ∙ ap is_suffix x.number_at.ensures in (
-      (next_fits _ _ (stepped k)).1,
-      sym (walk_more _ _ _ _ _ _ i.loop-test.true (stepped k)) ∙ l.loop.invariant.1,
-      rw e1.if1.false at (turn m),
-      rw e (later_inside (length a.t.now) l.loop.suffix l.loop.at c.is-suffix.result l.loop.invariant.3 i.loop-test.true),
-      rw (e, s) (carried (suffix_at a.magic a.t.now) a.t.now l.loop.at _ l.loop.suffix i.loop-test.true (stepped k)) ∙ l.loop.invariant.4,
-    )
+-- what holds after a turn, where what was found so far has become what the turn's TLV makes of it
+turned : (t : List ℕ) (magic suffix at p so_far : ℕ) → at < length t → next_of t at ≡ At p
+    → (at ≤ length t) × (broken t at ≡ broken t 0) × (misfit magic t at ≡ misfit magic t 0) × (suffix ≤ length t)
+    × (first_so_far (suffix_at magic t) t suffix at ≡ first (suffix_at magic t) t 0)
+    → misfit_at magic t at ≡ false
+    → so_far ≡ later_of (length t) suffix at (suffix_at magic t at)
+    → (p ≤ length t) × (broken t p ≡ broken t 0) × (misfit magic t p ≡ misfit magic t 0) × (so_far ≤ length t)
+    × (first_so_far (suffix_at magic t) t so_far p ≡ first (suffix_at magic t) t 0)
+turned t magic suffix at p so_far h n i m e = (
+  (next_fits t at n).1,
+  sym (walk_more _ _ _ _ at p h n) ∙ i.1,
+  rw m at (sym (walk_more _ _ _ _ at p h n) ∙ i.2),
+  rw e (later_inside (length t) suffix at (suffix_at magic t at) i.3 h),
+  rw e (carried (suffix_at magic t) t at p suffix h n) ∙ i.4,
+)
 
 pub returns-in_default : goal.returns-in_default
 unfolding sound_of
@@ -79,16 +74,28 @@ loop-at-smaller-then-is_suffix c =
     let n = next_fits _ _ ((let it : next_of c.args.t.now c.loop-at.at ≡ At c.in-At.p = sym c.step.ensures ∙ c.in-At.is in it)) in omega arith
 
 pub loop-at-preserved-then-is_suffix : goal.loop-at-preserved-then-is_suffix
+unfolding suffix_at
 loop-at-preserved-then-is_suffix c =
-    turned c.before.before (rw c.if-is_suffix.true c.later-suffix.ensures)
+    let n : next_of c.args.t.now c.loop-at.at ≡ At c.in-At.p = sym c.step.ensures ∙ c.in-At.is in
+    let s : true ≡ suffix_at c.args.magic c.args.t.now c.loop-at.at =
+    sym c.if-is_suffix.true ∙ c.is_suffix.ensures ∙ ap is_suffix c.number_at-x.ensures in
+    turned c.args.t.now c.args.magic c.loop-at.suffix c.loop-at.at c.in-At.p _ c.loop-at-test.true n c.loop-at.invariant
+    (sym (misfit_by_lem _ _ _ c.number_at-x.ensures (next_size _ _ n) c.misfits.ensures) ∙ c.if-misfits.false)
+    (rw (← s) c.later-suffix.ensures)
 
 pub loop-at-smaller : goal.loop-at-smaller
 loop-at-smaller c =
     let n = next_fits _ _ ((let it : next_of c.args.t.now c.loop-at.at ≡ At c.in-At.p = sym c.step.ensures ∙ c.in-At.is in it)) in omega arith
 
 pub loop-at-preserved : goal.loop-at-preserved
+unfolding suffix_at
 loop-at-preserved c =
-    turned c.before (rw c.if-is_suffix.false (sym (either (ltb c.loop-at.suffix (length c.args.t.now)) c.loop-at.suffix)))
+    let n : next_of c.args.t.now c.loop-at.at ≡ At c.in-At.p = sym c.step.ensures ∙ c.in-At.is in
+    let s : false ≡ suffix_at c.args.magic c.args.t.now c.loop-at.at =
+    sym c.if-is_suffix.false ∙ c.is_suffix.ensures ∙ ap is_suffix c.number_at-x.ensures in
+    turned c.args.t.now c.args.magic c.loop-at.suffix c.loop-at.at c.in-At.p _ c.loop-at-test.true n c.loop-at.invariant
+    (sym (misfit_by_lem _ _ _ c.number_at-x.ensures (next_size _ _ n) c.misfits.ensures) ∙ c.if-misfits.false)
+    (rw (← s) (sym (either (ltb c.loop-at.suffix (length c.args.t.now)) c.loop-at.suffix)))
 
 pub returns : goal.returns
 unfolding sound_of

@@ -1,8 +1,5 @@
 -- `walk::sound_suffix` meets its contract: along the walk neither the first break nor the first misfit nor the first
 -- suffix changes.
--- a turn's step
--- whether the turn's TLV is a misfit, and what that says of the first one
--- what holds after a turn, where what was found so far has become what the turn's TLV makes of it
 use Prim.Native.Nat.{◌-◌, ◌≤◌}
 use mathlib.Core.Path.{◌≡◌}
 use lib.ListN.{length}
