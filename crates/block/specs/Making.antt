@@ -1,5 +1,5 @@
 -- Blocks as they are made: a number and a first time, one record behind the other, and the check last (02, (iv)).
-use Rattle.std.specs.Prelude.{ℕ, zero, suc, ◌+◌, ◌-◌, ◌<◌, ◌≡◌, true, List, [], ◌∷◌, ◌++◌, length, get_or, drop, replicate}
+use Rattle.std.specs.Prelude.{ℕ, suc, ◌+◌, ◌-◌, ◌<◌, ◌≡◌, true, List, [], ◌∷◌, ◌++◌, length, get_or, drop, replicate}
 use Rattle.refusal.specs.Limits.{is_port}
 use Rattle.octets.specs.Be.{octets_of}
 use Rattle.stores.specs.Stores.{over}
