@@ -1,6 +1,6 @@
 -- Demand 3 and what follows from it, in the words of the calls: `ranking_of` is what ranking a run answers, `merge_of` what
 -- merging two lists answers.
-use Prim.Native.Nat.{◌+◌, ◌≤◌}
+use Prim.Native.Nat.{◌≤◌}
 use mathlib.Core.Path.{◌≡◌, refl, sym, ap, ap₂, ◌∙◌}
 use mathlib.Core.List.{List, [], ◌∷◌, ◌++◌, append-nil, append_assoc, Memᴰ}
 use mathlib.Core.Bool.{true}

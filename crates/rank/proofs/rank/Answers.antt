@@ -1,16 +1,17 @@
--- `rank` meets its contract: a walk of its code by hand, since it reads a slice of records. In a turn the slice is looked into
--- for a copy of its i-th record, and `step` is called on it. The loop's invariant: going on from here with what is left of
--- the run gives the answer. All that is known of the functions that it calls is their contracts.
--- the declared types by value, as the function's own MIR spells them
--- the contracts of the functions that are called, and of each one's `ensured` the clause alone
-use types.Run.{returns}
+-- `rank` meets its contract: going on from here with what is left of the run gives the answer.
+use Rattle.std.proofs.Common.{arith, take, length-take, drop_of_length-le}
+use Rattle.rank.proofs.Runs.{scan_all, turns_le, run_here}
 use Rattle.rank.proofs.rank.Goals as goal
 
 pub loop-i-init : goal.loop-i-init
-loop-i-init c = ?
+loop-i-init c = rw (c.start-s.ensures, c.turns-m.ensures) (scan_all c.args.run.now)
 
 pub loop-i-preserved : goal.loop-i-preserved
-loop-i-preserved c = ?
+loop-i-preserved c =
+    let e = run_here c.args.run.now c.turns-m.result c.loop-i.i c.loop-i-test.true (rw c.turns-m.ensures (turns_le _)) in
+    rw c.step-s.ensures (rw e at c.loop-i.invariant)
 
 pub returns : goal.returns
-returns c = ?
+returns c =
+    let z = drop_of_length-le (take c.turns-m.result c.args.run.now) {i = c.loop-i.i} (omega (arith, length-take c.turns-m.result c.args.run.now)) in
+    rw z at c.loop-i.invariant
