@@ -8,7 +8,6 @@ use Rattle.message.specs.declared.fields.PortIdentity.{PortIdentity}
 use Rattle.message.specs.declared.fields.Timestamp.{Timestamp}
 use Rattle.message.specs.declared.fields.Header.{Header}
 use Rattle.message.specs.declared.fields.Announce.{Announce}
-use Rattle.message.specs.declared.fields.DelayResp.{DelayResp}
 use Rattle.message.specs.declared.fields.Body.{Body}
 use Rattle.message.specs.declared.fields.Body.TheVariants as body
 use Rattle.message.specs.declared.fields.Message.{Message}
