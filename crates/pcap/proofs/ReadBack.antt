@@ -1,16 +1,16 @@
 -- READING A FILE GIVES WHAT WAS WRITTEN, in each of the four forms: proved once, over the order of the octets and the unit. So a file in one octet order and the
 -- file in the other, written of the same packets, hold the same frames.
-use Prim.Native.Nat.{ℕ, zero, suc, ◌+◌, ◌*◌, ◌/◌, ◌%◌, ◌^◌, ◌≤◌, ◌<◌}
+use Prim.Native.Nat.{ℕ, zero, suc, ◌+◌, ◌*◌, ◌/◌, ◌%◌, ◌^◌, ◌<◌}
 use mathlib.Core.Path.{◌≡◌, refl, sym, ap, subst, ◌∙◌}
 use mathlib.Core.Logic.{◌⊎◌, inl, inr}
 use mathlib.Core.List.{List, [], ◌∷◌, ◌++◌, map}
 use mathlib.Core.Bool.{Bool, true, false, not, ◌&&◌}
-use native.Mathlib.Nat.{pow-suc, add_assoc, add-zero, div-lt_iff_lt-mul, div-add-mod'}
+use native.Mathlib.Nat.{pow-suc, add-zero, div-lt_iff_lt-mul}
 use native.Mathlib.Omega.{arith}
 use lib.Dec.{eqb, leb, ltb}
 use lib.ListN.{length, get_or, take, drop, length-append}
 use lib.Seq.{get_or-drop, drop-drop, take_at, drop_at}
-use borrow.Author.Tests.{eq-eqb, ne_eqb, le-leb, lt-ltb}
+use borrow.Author.Tests.{le-leb, lt-ltb}
 use Rattle.refusal.specs.Choice.{pick}
 use Rattle.refusal.specs.Limits.{second_nanos}
 use Rattle.octets.specs.Be.{be, octets_of}
@@ -18,7 +18,7 @@ use Rattle.octets.proofs.Laws.{be_octets, be_drop}
 use Rattle.stores.specs.Stores.{low_of}
 use Rattle.pcap.specs.declared.Form.{Form}
 use Rattle.pcap.specs.Form.{low, number_at, number_octets, form_of}
-use Rattle.pcap.specs.File.{Frame, file_head, is_head, is_ethernet, fraction_of, stored_of, original_of, size_of, time_of, is_packet_head, is_packet, rests_from, rests_of, are_packets, is_capture_in, is_capture, frame_of, frames_in, frames_of}
+use Rattle.pcap.specs.File.{is_head, is_ethernet, stored_of, original_of, size_of, is_packet_head, is_packet, rests_of, are_packets, is_capture_in, is_capture, frame_of, frames_in, frames_of}
 use Rattle.pcap.specs.Written.{Fields, Packet, magic_of, head_in, packet_in, packets_in, file_in, IsForm, Fits, AllFit, frame_in}
 use Rattle.pcap.proofs.Laws.{rests_end, rests_more}
 

@@ -1,6 +1,6 @@
 -- The four forms of a capture file, as the values of two things: the order of a number's octets, and the nanoseconds of one count of a time's fraction
 -- (02, (vi): "magic 0xa1b2c3d4 (microseconds) or 0xa1b23c4d (nanoseconds) in either octet order"). Whatever is said of a file is said over them.
-use Rattle.std.specs.Prelude.{ℕ, zero, suc, ◌+◌, ◌*◌, List, Bool, true, false, eqb, get_or}
+use Rattle.std.specs.Prelude.{ℕ, zero, suc, ◌+◌, ◌*◌, List, true, false, eqb, get_or}
 use Rattle.refusal.specs.Choice.{pick}
 use Rattle.octets.specs.Be.{be, octets_of}
 use Rattle.stores.specs.Stores.{low_of}

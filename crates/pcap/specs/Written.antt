@@ -1,6 +1,6 @@
 -- A capture file as it is written: in any of the four forms, and ours (02, (vi): "We write nanosecond, big-endian, snapshot length 65,535, other fields and
 -- addresses zero").
-use Rattle.std.specs.Prelude.{ℕ, ◌+◌, ◌*◌, ◌/◌, ◌%◌, ◌<◌, ◌≤◌, ◌≡◌, ◌⊎◌, List, [], ◌∷◌, ◌++◌, map, false, eqb, length, replicate}
+use Rattle.std.specs.Prelude.{ℕ, ◌+◌, ◌*◌, ◌/◌, ◌%◌, ◌<◌, ◌≤◌, ◌≡◌, ◌⊎◌, List, [], ◌∷◌, ◌++◌, false, eqb, length, replicate}
 use Rattle.refusal.specs.Choice.{pick}
 use Rattle.refusal.specs.Limits.{second_nanos}
 use Rattle.pcap.specs.declared.Form.{Form}
