@@ -40,7 +40,7 @@ BODY = {f"{kind}.t.{field}": name for kind in ("Sync", "DelayReq", "FollowUp")
     "Announce.a.steps": "DZ_M_STEPS", "Announce.a.timesource": "DZ_M_SOURCE",
     "Signaling.p.clock": "DZ_M_TARGET_CLOCK", "Signaling.p.port": "DZ_M_TARGET_PORT"}
 STEP = {"link.state": "DZ_T_STATE", "link.role": "DZ_T_ROLE", "link.mode": "DZ_T_MODE", "link.retries": "DZ_T_RETRIES", "report": "DZ_T_REPORT",
-        "sends.sendsWords": "DZ_T_SENDS", "sends.One.a": "DZ_T_FIRST", "sends.Two.a": "DZ_T_FIRST", "sends.Two.b": "DZ_T_SECOND"}
+        "sends.sends_words": "DZ_T_SENDS", "sends.One.a": "DZ_T_FIRST", "sends.Two.a": "DZ_T_FIRST", "sends.Two.b": "DZ_T_SECOND"}
 STAMPS = {f"stamps.t{i}.{field}": f"DZ_E_T{i}_{name}" for i in (1, 2, 3, 4) for field, name in (("seconds", "SECONDS"), ("nanos", "NANOS"))}
 EXCHANGE = STAMPS | {
     "stamps.t2.fraction": "DZ_E_T2_FRACTION", "stamps.t3.fraction": "DZ_E_T3_FRACTION", "corrections.sync": "DZ_E_SYNC",
@@ -56,95 +56,95 @@ def of(variable, fields):
 
 
 # Definitions that work a word out of several fields: the word is named after them.
-WORKED_OUT = {"beginOf", "endOf"}
+WORKED_OUT = {"begin_of", "end_of"}
 
 # What a definition gives in words. A constant is named by the definition that it stands in. The last of each line is how many words there are.
 PACKED = [
-    ("candidate_words.candidateWords", of("c", CANDIDATE), "DZ_CANDIDATE_WORDS"),
-    ("candidate_words.foundWords", {"foundWords": "DZ_FOUND", "c": "DZ_FOUND_CANDIDATE"}, "DZ_FOUND_WORDS"),
-    ("candidate_words.rankedWords", {"r.len": "DZ_LIST_COUNT"} | {f"r.slots.{i}": f"DZ_LIST_AT({i})" for i in range(4)}, "DZ_LIST_WORDS"),
-    ("candidate_words.recordWords", {"recordWords": "DZ_R_HELD"} | of("r", RECORD), "DZ_RECORD_WORDS"),
-    ("candidate_words.statusWords", {"Known.last": "DZ_STATUS_LAST", "Known.k": "DZ_STATUS_INTERVAL"}, "DZ_STATUS_WORDS"),
-    ("message_words.messageWords", of("m", HEADER | of("body", BODY)), "DZ_MESSAGE_WORDS"),
-    ("message_words.tailWords", {"Whole.m.body": "DZ_TAIL_AT", "size": "DZ_TAIL_LENGTH"}, "DZ_TAIL_WORDS"),
-    ("message_words.tlvWords", {"tlvWords": "DZ_FOUND", "Found.at": "DZ_FOUND_DATA_AT", "size": "DZ_FOUND_DATA_LENGTH"}, "DZ_FOUND_DATA_WORDS"),
-    ("message_words.walkedWords", {
-        "walkedWords": "DZ_FOUND", "Next.x.place": "DZ_TLV_AT", "Next.x.kind": "DZ_TLV_TYPE", "Next.x.length": "DZ_TLV_LENGTH",
-        "Next.x.beginOf": "DZ_TLV_DATA_AT", "Next.x.endOf": "DZ_TLV_END"}, "DZ_FOUND_TLV_WORDS"),
-    ("message_words.suffixWords", {"suffixWords": "DZ_FOUND", "Flags.n": "DZ_FOUND_WRFLAGS"}, "DZ_FOUND_WRFLAGS_WORDS"),
-    ("message_words.linkWords", {"linkWords": "DZ_FOUND", "Message.m": "DZ_FOUND_LINK_MESSAGE"}, "DZ_FOUND_LINK_WORDS"),
-    ("message_words.linkMessageWords", {
-        "linkMessageWords": "DZ_L_NUMBER", "Calibrate.pattern": "DZ_L_PATTERN", "Calibrate.retry": "DZ_L_RETRY", "Calibrate.period": "DZ_L_PERIOD",
+    ("candidate_words.candidate_words", of("c", CANDIDATE), "DZ_CANDIDATE_WORDS"),
+    ("candidate_words.found_words", {"found_words": "DZ_FOUND", "c": "DZ_FOUND_CANDIDATE"}, "DZ_FOUND_WORDS"),
+    ("candidate_words.ranked_words", {"r.len": "DZ_LIST_COUNT"} | {f"r.slots.{i}": f"DZ_LIST_AT({i})" for i in range(4)}, "DZ_LIST_WORDS"),
+    ("candidate_words.record_words", {"record_words": "DZ_R_HELD"} | of("r", RECORD), "DZ_RECORD_WORDS"),
+    ("candidate_words.status_words", {"Known.last": "DZ_STATUS_LAST", "Known.k": "DZ_STATUS_INTERVAL"}, "DZ_STATUS_WORDS"),
+    ("message_words.message_words", of("m", HEADER | of("body", BODY)), "DZ_MESSAGE_WORDS"),
+    ("message_words.tail_words", {"Whole.m.body": "DZ_TAIL_AT", "size": "DZ_TAIL_LENGTH"}, "DZ_TAIL_WORDS"),
+    ("message_words.tlv_words", {"tlv_words": "DZ_FOUND", "Found.at": "DZ_FOUND_DATA_AT", "size": "DZ_FOUND_DATA_LENGTH"}, "DZ_FOUND_DATA_WORDS"),
+    ("message_words.walked_words", {
+        "walked_words": "DZ_FOUND", "Next.x.place": "DZ_TLV_AT", "Next.x.kind": "DZ_TLV_TYPE", "Next.x.length": "DZ_TLV_LENGTH",
+        "Next.x.begin_of": "DZ_TLV_DATA_AT", "Next.x.end_of": "DZ_TLV_END"}, "DZ_FOUND_TLV_WORDS"),
+    ("message_words.suffix_words", {"suffix_words": "DZ_FOUND", "Flags.n": "DZ_FOUND_WRFLAGS"}, "DZ_FOUND_WRFLAGS_WORDS"),
+    ("message_words.link_words", {"link_words": "DZ_FOUND", "Message.m": "DZ_FOUND_LINK_MESSAGE"}, "DZ_FOUND_LINK_WORDS"),
+    ("message_words.link_message_words", {
+        "link_message_words": "DZ_L_NUMBER", "Calibrate.pattern": "DZ_L_PATTERN", "Calibrate.retry": "DZ_L_RETRY", "Calibrate.period": "DZ_L_PERIOD",
         "Calibrated.tx": "DZ_L_TX", "Calibrated.rx": "DZ_L_RX"}, "DZ_LINK_MESSAGE_WORDS"),
-    ("message_words.originWords", {"stamp.6 octets": "DZ_STAMP_SECONDS", "stamp.4 octets": "DZ_STAMP_NANOS"}, "DZ_STAMP_WORDS"),
-    ("link_words.stepWords", of("s", STEP), "DZ_STEP_WORDS"),
-    ("exchange_words.measuredWords", {"Measured.d": "DZ_D_DELAY", "Measured.o.seconds": "DZ_D_SECONDS", "Measured.o.rest": "DZ_D_REST"}, "DZ_MEASURED_WORDS"),
-    ("trace_words.nextWords", of("Found.p", {
-        "placeWords": "DZ_FOUND", "time": "DZ_N_TIME", "port": "DZ_N_PORT", "at": "DZ_N_AT", "length": "DZ_N_LENGTH", "end": "DZ_N_END"}), "DZ_FOUND_ENTRY_WORDS"),
-    ("playback.readerWords", of("r", READER), "DZ_READER_WORDS"),
-    ("capture_words.formWords", of("f", FORM), "DZ_FORM_WORDS"),
+    ("message_words.origin_words", {"stamp.6 octets": "DZ_STAMP_SECONDS", "stamp.4 octets": "DZ_STAMP_NANOS"}, "DZ_STAMP_WORDS"),
+    ("link_words.step_words", of("s", STEP), "DZ_STEP_WORDS"),
+    ("exchange_words.measured_words", {"Measured.d": "DZ_D_DELAY", "Measured.o.seconds": "DZ_D_SECONDS", "Measured.o.rest": "DZ_D_REST"}, "DZ_MEASURED_WORDS"),
+    ("trace_words.next_words", of("Found.p", {
+        "place_words": "DZ_FOUND", "time": "DZ_N_TIME", "port": "DZ_N_PORT", "at": "DZ_N_AT", "length": "DZ_N_LENGTH", "end": "DZ_N_END"}), "DZ_FOUND_ENTRY_WORDS"),
+    ("playback.reader_words", of("r", READER), "DZ_READER_WORDS"),
+    ("capture_words.form_words", of("f", FORM), "DZ_FORM_WORDS"),
 ]
 
 # What a definition takes out of words.
 UNPACKED = [
-    ("candidate_words.candidateAt", CANDIDATE, "DZ_CANDIDATE_WORDS"),
-    ("candidate_words.grandmasterAt", {field: f"DZ_C_{name}" for field, name in GRANDMASTER.items()}, "DZ_OWN_WORDS"),
-    ("candidate_words.rankedOf", {"len": "DZ_LIST_COUNT"} | {f"slots.{i}": f"DZ_LIST_AT({i})" for i in range(4)}, "DZ_LIST_WORDS"),
-    ("candidate_words.setOf", SET, "DZ_SET_WORDS"),
-    ("exchange_words.exchangeOf", EXCHANGE, "DZ_EXCHANGE_WORDS"),
-    ("playback.readerOf", READER, "DZ_READER_WORDS"),
-    ("capture_words.formBy", FORM, "DZ_FORM_WORDS"),
+    ("candidate_words.candidate_at", CANDIDATE, "DZ_CANDIDATE_WORDS"),
+    ("candidate_words.grandmaster_at", {field: f"DZ_C_{name}" for field, name in GRANDMASTER.items()}, "DZ_OWN_WORDS"),
+    ("candidate_words.ranked_of", {"len": "DZ_LIST_COUNT"} | {f"slots.{i}": f"DZ_LIST_AT({i})" for i in range(4)}, "DZ_LIST_WORDS"),
+    ("candidate_words.set_of", SET, "DZ_SET_WORDS"),
+    ("exchange_words.exchange_of", EXCHANGE, "DZ_EXCHANGE_WORDS"),
+    ("playback.reader_of", READER, "DZ_READER_WORDS"),
+    ("capture_words.form_by", FORM, "DZ_FORM_WORDS"),
 ]
 
 # Words that a definition lists one by one, each named by the definition or the field that it is; then how many there are.
 LISTED = [
-    ("capture_words.packetAfter", {"timeOf": "DZ_K_TIME", "storedOf": "DZ_K_STORED"}, "DZ_PACKET_WORDS"),
-    ("exporting.readerBehind", {"next": "DZ_EXPORTER_NEXT", "last": "DZ_EXPORTER_LAST", "portBehind": "DZ_EXPORTER_PORT"}, "DZ_EXPORTER_WORDS"),
+    ("capture_words.packet_after", {"time_of": "DZ_K_TIME", "stored_of": "DZ_K_STORED"}, "DZ_PACKET_WORDS"),
+    ("exporting.reader_behind", {"next": "DZ_EXPORTER_NEXT", "last": "DZ_EXPORTER_LAST", "port_behind": "DZ_EXPORTER_PORT"}, "DZ_EXPORTER_WORDS"),
 ]
 
 # The numbers of cases.
 NUMBERS = [
-    ("refusal.numberOf", {name: f"DZ_REFUSED_{name.upper()}" for name in (
+    ("refusal.number_of", {name: f"DZ_REFUSED_{name.upper()}" for name in (
         "Short", "Version", "Type", "Length", "Stamp", "Tlv", "WrBad", "Port", "Domain", "Own", "Backward", "Stale", "Full", "Range", "Unranked",
         "Room", "Many", "Field", "Long", "Block", "Pcap", "Export")}),
-    ("election.codeOf", {name: f"DZ_{name}" for name in ("M1", "M2", "M3", "S1", "S2", "P1", "P2")}),
-    ("candidate_words.comparisonNumber", {
+    ("election.code_of", {name: f"DZ_{name}" for name in ("M1", "M2", "M3", "S1", "S2", "P1", "P2")}),
+    ("candidate_words.comparison_number", {
         "ABetter": "DZ_A_BETTER", "BBetter": "DZ_B_BETTER", "ABetterByTopology": "DZ_A_BETTER_BY_TOPOLOGY",
         "BBetterByTopology": "DZ_B_BETTER_BY_TOPOLOGY", "Error1": "DZ_ERROR_1", "Error2": "DZ_ERROR_2"}),
-    ("link.stateNumber", {
+    ("link.state_number", {
         "Idle": "DZ_STATE_IDLE", "Present": "DZ_STATE_PRESENT", "MLock": "DZ_STATE_M_LOCK", "SLock": "DZ_STATE_S_LOCK", "Locked": "DZ_STATE_LOCKED",
         "Calibration": "DZ_STATE_CALIBRATION", "Calibrated": "DZ_STATE_CALIBRATED", "RespCalibReq": "DZ_STATE_RESP_CALIB_REQ"}),
-    ("links.roleNumber", {"Slave": "DZ_ROLE_SLAVE", "Master": "DZ_ROLE_MASTER"}),
-    ("layout.kindOf", {
+    ("links.role_number", {"Slave": "DZ_ROLE_SLAVE", "Master": "DZ_ROLE_MASTER"}),
+    ("layout.kind_of", {
         "Sync": "DZ_SYNC", "DelayReq": "DZ_DELAY_REQ", "FollowUp": "DZ_FOLLOW_UP", "DelayResp": "DZ_DELAY_RESP", "Announce": "DZ_ANNOUNCE",
         "Signaling": "DZ_SIGNALING"}),
-    ("tlv.linkNumber", {
+    ("tlv.link_number", {
         "SlavePresent": "DZ_LINK_SLAVE_PRESENT", "Lock": "DZ_LINK_LOCK", "Locked": "DZ_LINK_LOCKED", "Calibrate": "DZ_LINK_CALIBRATE",
         "Calibrated": "DZ_LINK_CALIBRATED", "ModeOn": "DZ_LINK_WR_MODE_ON"}),
 ]
 
 # The places in a row of words that a definition reads or sets, as it names them from left to right.
 ROWS = [
-    ("bursts.portIn", ["DZ_BURST_PORT"]),
-    ("bursts.timeIn", ["DZ_BURST_TIME"]),
-    ("bursts.octetsIn", ["DZ_BURST_AT", "DZ_BURST_LENGTH"]),
+    ("bursts.port_in", ["DZ_BURST_PORT"]),
+    ("bursts.time_in", ["DZ_BURST_TIME"]),
+    ("bursts.octets_in", ["DZ_BURST_AT", "DZ_BURST_LENGTH"]),
     ("bursts.answered", ["DZ_BURST_ANSWER"]),
-    ("recording.nextOf", ["DZ_RECORDING_NEXT"]),
-    ("recording.lastOf", ["DZ_RECORDING_LAST"]),
-    ("recording.endOf", ["DZ_RECORDING_END"]),
-    ("exporting.portBehind", ["DZ_EXPORTER_PORT", "DZ_EXPORTER_PORT"]),
+    ("recording.next_of", ["DZ_RECORDING_NEXT"]),
+    ("recording.last_of", ["DZ_RECORDING_LAST"]),
+    ("recording.end_of", ["DZ_RECORDING_END"]),
+    ("exporting.port_behind", ["DZ_EXPORTER_PORT", "DZ_EXPORTER_PORT"]),
 ]
 
 # The numbers that a definition tests for, or is.
 TESTED = [
     ("link.CanSlave", ["DZ_CONFIG_SLAVE", "DZ_CONFIG_BOTH"]),
     ("link.CanMaster", ["DZ_CONFIG_MASTER", "DZ_CONFIG_BOTH"]),
-    ("bursts.isMany", ["DZ_BURST_MOST"]),
-    ("block.blockOctets", ["DZ_BLOCK_OCTETS"]),
+    ("bursts.is_many", ["DZ_BURST_MOST"]),
+    ("block.block_octets", ["DZ_BLOCK_OCTETS"]),
     ("block.longest", ["DZ_TRACE_LONGEST"]),
-    ("pcap.fileHead", ["DZ_CAPTURE_HEAD_OCTETS"]),
-    ("pcap.packetHead", ["DZ_PACKET_HEAD_OCTETS"]),
-    ("importing.frameHead", ["DZ_FRAME_HEAD_OCTETS"]),
+    ("pcap.file_head", ["DZ_CAPTURE_HEAD_OCTETS"]),
+    ("pcap.packet_head", ["DZ_PACKET_HEAD_OCTETS"]),
+    ("importing.frame_head", ["DZ_FRAME_HEAD_OCTETS"]),
 ]
 
 # Enumerators of which no definition speaks: no refusal, no config, what follows from another, the length of a row, which a call's parameter has, and
@@ -163,7 +163,28 @@ class Definition:
 
 
 def tokens_of(text):
-    return re.findall(r"[(){};]|[^\s(){};]+", text)
+    """The tokens of a text, where a field of a term stands behind it in brackets: `(r .slots)` for `r.slots`, and `((f x) .slots)` for `(f x).slots`."""
+    tokens = []
+    for token in re.findall(r"[(){};]|[^\s(){};]+", text):
+        head, *fields = re.split(r"\.(?=[a-z0-9])", token)
+        start = len(tokens)
+        if head:
+            tokens.append(head)
+        elif fields:
+            start = opening(tokens)
+        for field in fields:
+            tokens[start:] = ["(", *tokens[start:], f".{field}", ")"]
+    return tokens
+
+
+def opening(tokens):
+    """Where the bracket opens that the last token closes."""
+    depth = 0
+    for i in range(len(tokens) - 1, -1, -1):
+        depth += (tokens[i] in ")}") - (tokens[i] in "({")
+        if depth == 0:
+            return i
+    raise ValueError("no bracket opens")
 
 
 def definitions_of(crate):
@@ -171,7 +192,7 @@ def definitions_of(crate):
     found = {}
     for path in sorted((ROOT / "crates" / crate / "specs").rglob("*.antt")):
         text = re.sub(r"--.*", "", path.read_text())
-        imports = {name.strip(): other for other, names in re.findall(r"^use Rattle·(\w+)[^\n{]*\{([^}]*)\}", text, re.M) for name in names.split(",")}
+        imports = {name.strip(): other for other, names in re.findall(r"^use Rattle\.(\w+)\.[^\n{]*\{([^}]*)\}", text, re.M) for name in names.split(",")}
         for line in re.split(r"\n(?=\S)", text):
             signature = re.match(r"(?:abbrev|unfoldable) pub (\S+) :(.*)", line, re.S)
             name = signature[1] if signature else line.split(" ")[0].strip()
@@ -313,9 +334,9 @@ def operated(operator, a, b, begun):
 
 
 def called(name, arguments, near, begun):
-    """A call: of words, it is worked out; of getD, it is a place; of anything else, it is what its argument is, told in another way."""
+    """A call: of words, it is worked out; of get_or, it is a place; of anything else, it is what its argument is, told in another way."""
     known = resolve(name, near)
-    if name == "getD":
+    if name == "get_or":
         yield Word(arguments[1]) if arguments[0] is LENT else Field((*arguments[0], str(arguments[1])))
     elif known and known.of_words:
         path = next((x for x in arguments if isinstance(x, Field)), ())
@@ -468,7 +489,7 @@ def places_in(term):
     """The places that a term reads of a row, or sets in it, from left to right."""
     if not isinstance(term, (tuple, list)):
         return []
-    here = [int(term[2][1][1])] if term[:2] in (("call", ("name", "getD")), ("call", ("name", "set"))) else []
+    here = [int(term[2][1][1])] if term[:2] in (("call", ("name", "get_or")), ("call", ("name", "set"))) else []
     return here + [place for part in term for place in places_in(part)]
 
 
