@@ -1,10 +1,9 @@
 -- Deciding by the lead and by whether the port is in the list is deciding by the list.
 use Prim.Native.Nat.{ℕ}
-use mathlib.Core.Path.{◌≡◌, refl}
+use mathlib.Core.Path.{◌≡◌}
 use mathlib.Core.List.{List, [], ◌∷◌}
 use mathlib.Core.Bool.{◌&&◌}
 use lib.Dec.{leb}
-use Rattle.refusal.specs.Choice.{pick}
 use Rattle.rank.specs.declared.Grandmaster.{Grandmaster}
 use Rattle.rank.specs.declared.Candidate.{Candidate}
 use Rattle.rank.specs.Ranked.{holds_of}
