@@ -2,7 +2,7 @@
 use mathlib.Core.Path.{◌≡◌, sym, ap, ◌∙◌}
 use Prim.Native.Nat.{ℕ, ◌+◌, ◌-◌, ◌*◌, ◌/◌, ◌%◌, ◌^◌, ◌≤◌, ◌<◌}
 use native.Mathlib.Omega.{arith}
-use native.Mathlib.Nat.{add-mul-div_right, add-mul-mod_self_right, mod-eq_of_lt, mul-le-mul_right, div-le_of_le-mul}
+use native.Mathlib.Nat.{add-mul-div_right, add-mul-mod_self_right, mul-le-mul_right, div-le_of_le-mul}
 use lib.IntN.{ℤ, pos, ◌+ℤ◌, ◌-ℤ◌, ◌*ℤ◌}
 use Rattle.signed.specs.Floor.{floor, rest}
 use Rattle.signed.specs.Limits.{Within}

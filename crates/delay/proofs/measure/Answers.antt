@@ -1,0 +1,20 @@
+-- `measure` meets its contract: where M is refused so is the exchange, and else the delay and the offset are those of the contract.
+use mathlib.Core.Path.{ap, ap₂, ◌∙◌}
+use Prim.Native.Nat.{◌^◌}
+use lib.IntN.{ℤ, ◌-ℤ◌}
+use Rattle.delay.specs.declared.Measurement.TheVariants.{Measured}
+use Rattle.delay.specs.Delay.{t1, t2, delay, offset, in_seconds}
+use Rattle.delay.proofs.Ranges.{range_yes}
+use Rattle.delay.proofs.Laws.{raised_alike, lowered_is}
+use Rattle.delay.proofs.measure.Goals as goal
+
+pub returns : goal.returns
+unfolding offset t2
+returns c =
+    let d = c.delay_of-delay in
+    let x = c.args.x in
+    let alike = raised_alike (t2 x) (t1 x) _ _ (2 ^ 48) c.slave_time.ensures.is c.t1.ensures.is in
+    let low = lowered_is (delay x) (2 ^ 49) d.result d.ensures.is in
+    let o = c.offset_of-offset.ensures ∙ ap in_seconds (ap₂ ◌-ℤ◌ alike low) in
+    let e = c.lowered.ensures ∙ low in
+    simp (range_yes c.in-At.ensures.0) (ap₂ Measured (ap (λ (z : ℤ). record { 0 = z }) e) o)
