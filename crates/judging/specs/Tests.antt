@@ -1,6 +1,6 @@
 -- The four tests of a block, in their order (02, (iv): "check, layout (a short block too), number or time order wrong, checked in that order").
 -- Each is a definition of its own.
-use Rattle.std.specs.Prelude.{ℕ, zero, suc, ◌+◌, List, [], ◌∷◌, Bool, true, not, ◌&&◌, eqb, leb, length, drop}
+use Rattle.std.specs.Prelude.{ℕ, zero, suc, List, [], ◌∷◌, Bool, true, not, ◌&&◌, eqb, leb, length, drop}
 use Rattle.refusal.specs.Choice.{pick, refuse}
 use Rattle.refusal.specs.Limits.{is_port}
 use Rattle.block.specs.Layout.{block_octets, records_at, Entry, number_of, first_time_of, count_of, time_at, port_at, end_at, entries_of}
