@@ -23,96 +23,96 @@ use Rattle.bursts.proofs.Bursts.{burst_same}
 use Rattle.words.specs.Words.{port_of}
 use Rattle.message_words.specs.Answers.{read_code, read_words, tail_words, tlv_code, tlv_words, walked_code, walked_words, suffix_code, suffix_words, link_code, link_words, origin_words}
 use Rattle.dzervolat.specs.Settings.{settings}
-use Rattle.dzervolat.proofs.reading.dz_read.Reads as dz-read
-use Rattle.dzervolat.proofs.reading.dz_read.Kinds as dz-read-kinds
-use Rattle.dzervolat.proofs.reading.dz_lookup.Reads as dz-lookup
-use Rattle.dzervolat.proofs.reading.dz_lookup.Kinds as dz-lookup-kinds
-use Rattle.dzervolat.proofs.reading.dz_walk.Reads as dz-walk
-use Rattle.dzervolat.proofs.reading.dz_walk.Kinds as dz-walk-kinds
-use Rattle.dzervolat.proofs.reading.dz_suffix.Reads as dz-suffix
-use Rattle.dzervolat.proofs.reading.dz_suffix.Kinds as dz-suffix-kinds
-use Rattle.dzervolat.proofs.reading.dz_link_message.Reads as dz-link-message
-use Rattle.dzervolat.proofs.reading.dz_link_message.Kinds as dz-link-message-kinds
-use Rattle.dzervolat.proofs.reading.dz_origin.Reads as dz-origin
-use Rattle.dzervolat.proofs.reading.dz_origin.Kinds as dz-origin-kinds
-use Rattle.dzervolat.proofs.records.dz_take.Reads as dz-take
-use Rattle.dzervolat.proofs.records.dz_take.Kinds as dz-take-kinds
-use Rattle.dzervolat.proofs.records.dz_take_burst.Reads as dz-take-burst
-use Rattle.dzervolat.proofs.records.dz_take_burst.Kinds as dz-take-burst-kinds
+use Rattle.dzervolat.proofs.reading.dz_read.Reads as dz_read
+use Rattle.dzervolat.proofs.reading.dz_read.Kinds as dz_read_kinds
+use Rattle.dzervolat.proofs.reading.dz_lookup.Reads as dz_lookup
+use Rattle.dzervolat.proofs.reading.dz_lookup.Kinds as dz_lookup_kinds
+use Rattle.dzervolat.proofs.reading.dz_walk.Reads as dz_walk
+use Rattle.dzervolat.proofs.reading.dz_walk.Kinds as dz_walk_kinds
+use Rattle.dzervolat.proofs.reading.dz_suffix.Reads as dz_suffix
+use Rattle.dzervolat.proofs.reading.dz_suffix.Kinds as dz_suffix_kinds
+use Rattle.dzervolat.proofs.reading.dz_link_message.Reads as dz_link_message
+use Rattle.dzervolat.proofs.reading.dz_link_message.Kinds as dz_link_message_kinds
+use Rattle.dzervolat.proofs.reading.dz_origin.Reads as dz_origin
+use Rattle.dzervolat.proofs.reading.dz_origin.Kinds as dz_origin_kinds
+use Rattle.dzervolat.proofs.records.dz_take.Reads as dz_take
+use Rattle.dzervolat.proofs.records.dz_take.Kinds as dz_take_kinds
+use Rattle.dzervolat.proofs.records.dz_take_burst.Reads as dz_take_burst
+use Rattle.dzervolat.proofs.records.dz_take_burst.Kinds as dz_take_burst_kinds
 
-module _ (κs : Lfts 3) (a b : Dens κs dz-read-kinds.ps) (x y : (res_t dz-read-kinds.r κs).Denot)
-    (e f : AtExit (ended_of 3 dz-read-kinds.ps dz-read-kinds.r) κs) where
+module _ (κs : Lfts 3) (a b : Dens κs dz_read_kinds.ps) (x y : (res_t dz_read_kinds.r κs).Denot)
+    (e f : AtExit (ended_of 3 dz_read_kinds.ps dz_read_kinds.r) κs) where
   pub dz_read_ignores : Alike a.0.now b.0.now → a.1.0 ≡ b.1.0 → a.1.1.0.now ≡ b.1.1.0.now → a.1.1.1.0.now ≡ b.1.1.1.0.now
-      → dz-read.Post κs a x e → dz-read.Post κs b y f
+      → dz_read.Post κs a x e → dz_read.Post κs b y f
       → (x ≡ y) × (e.1.1.0.now ≡ f.1.1.0.now) × (e.1.1.1.0.now ≡ f.1.1.1.0.now)
   dz_read_ignores s m w l p q =
       let r = read_same a.0.now b.0.now s a.1.0 ∙ ap (λ (k : ℕ). read_of k b.0.now) m in
       let t = tail_in_same a.0.now b.0.now s a.1.0 ∙ ap (λ (k : ℕ). tail_in k b.0.now) m in (
-        p.0 ∙ ap read_code r ∙ sym q.0,
-        p.1.0 ∙ (λ i. read_words (r i) (w i)) ∙ sym q.1.0,
-        p.1.1 ∙ (λ i. tail_words (r i) (length (t i)) (l i)) ∙ sym q.1.1,
+        p.answer ∙ ap read_code r ∙ sym q.answer,
+        p.words ∙ (λ i. read_words (r i) (w i)) ∙ sym q.words,
+        p.rest ∙ (λ i. tail_words (r i) (length (t i)) (l i)) ∙ sym q.rest,
       )
 
-module _ (κs : Lfts 2) (a b : Dens κs dz-lookup-kinds.ps) (x y : (res_t dz-lookup-kinds.r κs).Denot)
-    (e f : AtExit (ended_of 2 dz-lookup-kinds.ps dz-lookup-kinds.r) κs) where
+module _ (κs : Lfts 2) (a b : Dens κs dz_lookup_kinds.ps) (x y : (res_t dz_lookup_kinds.r κs).Denot)
+    (e f : AtExit (ended_of 2 dz_lookup_kinds.ps dz_lookup_kinds.r) κs) where
   pub dz_lookup_ignores : Alike a.0.now b.0.now → a.1.0 ≡ b.1.0 → a.1.1.0 ≡ b.1.1.0 → a.1.1.1.0.now ≡ b.1.1.1.0.now
-      → dz-lookup.Post κs a x e → dz-lookup.Post κs b y f → (x ≡ y) × (e.1.1.1.0.now ≡ f.1.1.1.0.now)
+      → dz_lookup.Post κs a x e → dz_lookup.Post κs b y f → (x ≡ y) × (e.1.1.1.0.now ≡ f.1.1.1.0.now)
   dz_lookup_ignores s k m w p q =
       let r = lookup_same a.0.now b.0.now s a.1.1.0 a.1.0 ∙ (λ i. lookup_of (m i) (k i) b.0.now) in
       let d = data_same a.0.now b.0.now s a.1.1.0 a.1.0 ∙ (λ i. data_in (m i) (k i) b.0.now) in
-      (p.0 ∙ ap tlv_code r ∙ sym q.0, p.1 ∙ (λ i. tlv_words (r i) (length (d i)) (w i)) ∙ sym q.1)
+      (p.answer ∙ ap tlv_code r ∙ sym q.answer, p.words ∙ (λ i. tlv_words (r i) (length (d i)) (w i)) ∙ sym q.words)
 
-module _ (κs : Lfts 2) (a b : Dens κs dz-walk-kinds.ps) (x y : (res_t dz-walk-kinds.r κs).Denot)
-    (e f : AtExit (ended_of 2 dz-walk-kinds.ps dz-walk-kinds.r) κs) where
+module _ (κs : Lfts 2) (a b : Dens κs dz_walk_kinds.ps) (x y : (res_t dz_walk_kinds.r κs).Denot)
+    (e f : AtExit (ended_of 2 dz_walk_kinds.ps dz_walk_kinds.r) κs) where
   pub dz_walk_ignores : Alike a.0.now b.0.now → a.1.0 ≡ b.1.0 → a.1.1.0 ≡ b.1.1.0 → a.1.1.1.0.now ≡ b.1.1.1.0.now
-      → dz-walk.Post κs a x e → dz-walk.Post κs b y f → (x ≡ y) × (e.1.1.1.0.now ≡ f.1.1.1.0.now)
+      → dz_walk.Post κs a x e → dz_walk.Post κs b y f → (x ≡ y) × (e.1.1.1.0.now ≡ f.1.1.1.0.now)
   dz_walk_ignores s k m w p q =
       let r = walk_same a.0.now b.0.now s a.1.1.0 a.1.0 ∙ (λ i. next_in (m i) (k i) b.0.now) in
-      (p.0 ∙ ap walked_code r ∙ sym q.0, p.1 ∙ (λ i. walked_words (r i) (w i)) ∙ sym q.1)
+      (p.answer ∙ ap walked_code r ∙ sym q.answer, p.words ∙ (λ i. walked_words (r i) (w i)) ∙ sym q.words)
 
-module _ (κs : Lfts 2) (a b : Dens κs dz-suffix-kinds.ps) (x y : (res_t dz-suffix-kinds.r κs).Denot)
-    (e f : AtExit (ended_of 2 dz-suffix-kinds.ps dz-suffix-kinds.r) κs) where
+module _ (κs : Lfts 2) (a b : Dens κs dz_suffix_kinds.ps) (x y : (res_t dz_suffix_kinds.r κs).Denot)
+    (e f : AtExit (ended_of 2 dz_suffix_kinds.ps dz_suffix_kinds.r) κs) where
   pub dz_suffix_ignores : Alike a.0.now b.0.now → a.1.0 ≡ b.1.0 → a.1.1.0.now ≡ b.1.1.0.now
-      → dz-suffix.Post κs a x e → dz-suffix.Post κs b y f → (x ≡ y) × (e.1.1.0.now ≡ f.1.1.0.now)
+      → dz_suffix.Post κs a x e → dz_suffix.Post κs b y f → (x ≡ y) × (e.1.1.0.now ≡ f.1.1.0.now)
   dz_suffix_ignores s m w p q =
       let r = suffix_same a.0.now b.0.now s a.1.0 ∙ ap (λ (k : ℕ). suffix_of k b.0.now) m in
-      (p.0 ∙ ap suffix_code r ∙ sym q.0, p.1 ∙ (λ i. suffix_words (r i) (w i)) ∙ sym q.1)
+      (p.answer ∙ ap suffix_code r ∙ sym q.answer, p.words ∙ (λ i. suffix_words (r i) (w i)) ∙ sym q.words)
 
-module _ (κs : Lfts 2) (a b : Dens κs dz-link-message-kinds.ps) (x y : (res_t dz-link-message-kinds.r κs).Denot)
-    (e f : AtExit (ended_of 2 dz-link-message-kinds.ps dz-link-message-kinds.r) κs) where
+module _ (κs : Lfts 2) (a b : Dens κs dz_link_message_kinds.ps) (x y : (res_t dz_link_message_kinds.r κs).Denot)
+    (e f : AtExit (ended_of 2 dz_link_message_kinds.ps dz_link_message_kinds.r) κs) where
   pub dz_link_message_ignores : Alike a.0.now b.0.now → a.1.0 ≡ b.1.0 → a.1.1.0.now ≡ b.1.1.0.now
-      → dz-link-message.Post κs a x e → dz-link-message.Post κs b y f → (x ≡ y) × (e.1.1.0.now ≡ f.1.1.0.now)
+      → dz_link_message.Post κs a x e → dz_link_message.Post κs b y f → (x ≡ y) × (e.1.1.0.now ≡ f.1.1.0.now)
   dz_link_message_ignores s m w p q =
       let r = link_same a.0.now b.0.now s a.1.0 ∙ ap (λ (k : ℕ). link_of k b.0.now) m in
-      (p.0 ∙ ap link_code r ∙ sym q.0, p.1 ∙ (λ i. link_words (r i) (w i)) ∙ sym q.1)
+      (p.answer ∙ ap link_code r ∙ sym q.answer, p.words ∙ (λ i. link_words (r i) (w i)) ∙ sym q.words)
 
-module _ (κs : Lfts 2) (a b : Dens κs dz-origin-kinds.ps) (x y : (res_t dz-origin-kinds.r κs).Denot)
-    (e f : AtExit (ended_of 2 dz-origin-kinds.ps dz-origin-kinds.r) κs) where
+module _ (κs : Lfts 2) (a b : Dens κs dz_origin_kinds.ps) (x y : (res_t dz_origin_kinds.r κs).Denot)
+    (e f : AtExit (ended_of 2 dz_origin_kinds.ps dz_origin_kinds.r) κs) where
   pub dz_origin_ignores : Alike a.0.now b.0.now → Alike a.1.0.now b.1.0.now → a.1.1.0 ≡ b.1.1.0 → a.1.1.1.0.now ≡ b.1.1.1.0.now
-      → dz-origin.Post κs a x e → dz-origin.Post κs b y f → (x ≡ y) × (e.1.1.1.0.now ≡ f.1.1.1.0.now)
+      → dz_origin.Post κs a x e → dz_origin.Post κs b y f → (x ≡ y) × (e.1.1.1.0.now ≡ f.1.1.1.0.now)
   dz_origin_ignores s u m w p q =
       let r = origin_check_same a.1.1.0 a.0.now b.0.now a.1.0.now b.1.0.now s u ∙ ap (λ (k : ℕ). origin_check k b.0.now b.1.0.now) m in
       let o = origin_same a.1.1.0 a.0.now b.0.now a.1.0.now b.1.0.now s u ∙ ap (λ (k : ℕ). origin_in k b.0.now b.1.0.now) m in
-      (p.0 ∙ ap code_of r ∙ sym q.0, p.1 ∙ (λ i. origin_words (r i) (o i) (w i)) ∙ sym q.1)
+      (p.answer ∙ ap code_of r ∙ sym q.answer, p.words ∙ (λ i. origin_words (r i) (o i) (w i)) ∙ sym q.words)
 
-module _ (κs : Lfts 2) (a b : Dens κs dz-take-kinds.ps) (x y : (res_t dz-take-kinds.r κs).Denot)
-    (e f : AtExit (ended_of 2 dz-take-kinds.ps dz-take-kinds.r) κs) where
+module _ (κs : Lfts 2) (a b : Dens κs dz_take_kinds.ps) (x y : (res_t dz_take_kinds.r κs).Denot)
+    (e f : AtExit (ended_of 2 dz_take_kinds.ps dz_take_kinds.r) κs) where
   pub dz_take_ignores : Alike a.1.1.1.0.now b.1.1.1.0.now → a.0.now ≡ b.0.now → a.1.0 ≡ b.1.0 → a.1.1.0 ≡ b.1.1.0
       → a.1.1.1.1.0 ≡ b.1.1.1.1.0 → a.1.1.1.1.1.0 ≡ b.1.1.1.1.1.0 → a.1.1.1.1.1.1.0 ≡ b.1.1.1.1.1.1.0
-      → dz-take.Post κs a x e → dz-take.Post κs b y f → (x ≡ y) × (e.0.now ≡ f.0.now)
+      → dz_take.Post κs a x e → dz_take.Post κs b y f → (x ≡ y) × (e.0.now ≡ f.0.now)
   dz_take_ignores s w n t d c m p q =
       let r = plan_same (settings a.1.1.1.1.0 a.1.1.1.1.1.0 a.1.1.1.1.1.1.0) (port_of a.1.0) a.1.1.1.0.now b.1.1.1.0.now s a.0.now a.1.1.0
       ∙ (λ i. plan_at (settings (d i) (c i) (m i)) (w i) (port_of (n i)) (t i) b.1.1.1.0.now) in
-      (p.0 ∙ (λ i. code_of (outcome_of (r i))) ∙ sym q.0, p.1 ∙ (λ i. state_after (w i) (port_of (n i)) (t i) (r i)) ∙ sym q.1)
+      (p.answer ∙ (λ i. code_of (outcome_of (r i))) ∙ sym q.answer, p.words ∙ (λ i. state_after (w i) (port_of (n i)) (t i) (r i)) ∙ sym q.words)
 
-module _ (κs : Lfts 3) (a b : Dens κs dz-take-burst-kinds.ps) (x y : (res_t dz-take-burst-kinds.r κs).Denot)
-    (e f : AtExit (ended_of 3 dz-take-burst-kinds.ps dz-take-burst-kinds.r) κs) where
+module _ (κs : Lfts 3) (a b : Dens κs dz_take_burst_kinds.ps) (x y : (res_t dz_take_burst_kinds.r κs).Denot)
+    (e f : AtExit (ended_of 3 dz_take_burst_kinds.ps dz_take_burst_kinds.r) κs) where
   pub dz_take_burst_ignores : AlikeIn a.1.0.now b.1.0.now a.1.1.0.now → a.0.now ≡ b.0.now → a.1.1.0.now ≡ b.1.1.0.now
       → a.1.1.1.0 ≡ b.1.1.1.0 → a.1.1.1.1.0 ≡ b.1.1.1.1.0 → a.1.1.1.1.1.0 ≡ b.1.1.1.1.1.0
-      → dz-take-burst.Post κs a x e → dz-take-burst.Post κs b y f → (x ≡ y) × (e.0.now ≡ f.0.now) × (e.1.1.0.now ≡ f.1.1.0.now)
+      → dz_take_burst.Post κs a x e → dz_take_burst.Post κs b y f → (x ≡ y) × (e.0.now ≡ f.0.now) × (e.1.1.0.now ≡ f.1.1.0.now)
   dz_take_burst_ignores s w r d c m p q =
       let l = burst_same (settings a.1.1.1.0 a.1.1.1.1.0 a.1.1.1.1.1.0) a.1.0.now b.1.0.now a.0.now a.1.1.0.now s in (
-        p.0 ∙ (λ i. code_of (burst_check (r i))) ∙ sym q.0,
-        p.1.0 ∙ l.0 ∙ (λ i. burst_words (settings (d i) (c i) (m i)) b.1.0.now (w i) (r i)) ∙ sym q.1.0,
-        p.1.1 ∙ l.1 ∙ (λ i. burst_rows (settings (d i) (c i) (m i)) b.1.0.now (w i) (r i)) ∙ sym q.1.1,
+        p.answer ∙ (λ i. code_of (burst_check (r i))) ∙ sym q.answer,
+        p.words ∙ l.0 ∙ (λ i. burst_words (settings (d i) (c i) (m i)) b.1.0.now (w i) (r i)) ∙ sym q.words,
+        p.rows ∙ l.1 ∙ (λ i. burst_rows (settings (d i) (c i) (m i)) b.1.0.now (w i) (r i)) ∙ sym q.rows,
       )
