@@ -4,7 +4,6 @@ use Prim.Native.Nat.{ℕ, suc, ◌+◌}
 use mathlib.Core.Path.{◌≡◌, refl, sym, subst}
 use mathlib.Core.Bool.{Bool, true, false, ◌&&◌}
 use mathlib.Core.List.{[], ◌∷◌}
-use native.Mathlib.Omega.{arith}
 use Rattle.laws.proofs.Bools.{clash}
 use Rattle.refusal.specs.Choice.{pick}
 use Rattle.tlv.specs.declared.wr.LinkMessage.TheVariants as message

@@ -16,7 +16,6 @@ use Rattle.link.specs.declared.Link.{Link}
 use Rattle.link.specs.declared.Settings.{Settings}
 use Rattle.link.specs.declared.Event.{Event}
 use Rattle.link.specs.declared.Event.TheVariants.{Start, Message, Done, Timeout, Stop}
-use Rattle.link.specs.declared.Sends.TheVariants.{Nothing}
 use Rattle.link.specs.declared.Move.{Move}
 use Rattle.link.specs.declared.Move.TheVariants.{Ignore, Enter, LinkOn, Resend, Leave}
 use Rattle.link.specs.declared.Waits.{Waits}
