@@ -10,26 +10,32 @@ pub mod tally;
 mod text;
 
 pub use line::tell;
+use std::io;
+use std::io::Write;
 pub use text::{NONE, front, say};
 
 // What stands above the day.
-pub fn heading() {
+pub fn heading<W: Write>(out: &mut W) -> io::Result<()> {
     say(
+        out,
         b"A day on the eighteen ports of a boundary clock. Who announces is made up; decisions, counts, delays and offsets are the engine's.
 
 ",
-    );
+    )
 }
 
 // Below the table of decisions. A long text costs the check more than its lines do one by one.
-pub fn decisions_explained() {
+pub fn decisions_explained<W: Write>(out: &mut W) -> io::Result<()> {
     say(
+        out,
         b"S1 slave: follows the parent    S2 backup: hears the parent's grandmaster by another way, and is in the ranked list of four\n",
-    );
+    )?;
     say(
+        out,
         b"M1 M2 master: our own clock leads (M1 where our class is 1 to 127)    M3 master: the parent is heard on another port\n",
-    );
+    )?;
     say(
+        out,
         b"P1 passive: our class is 1 to 127 and the port hears a better clock    P2 passive: as S2, but not in the list\n",
-    );
+    )
 }

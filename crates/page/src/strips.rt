@@ -2,6 +2,8 @@
 ghost use Rattle.std.specs.Prelude.{◌<◌};
 
 use crate::{line, names, tally, text};
+use std::io;
+use std::io::Write;
 
 // Where a port's letter of an hour stands.
 fn place(port: u8, h: u64) -> usize
@@ -41,53 +43,74 @@ pub fn closed(
 }
 
 // A port's day: its strip, and what became of what it heard.
-fn strip_told(counts: &[u64; tally::COUNTS], strips: &[u8; 456], port: u8) {
-    line::tell(b"%4  ", &[port as u64]);
-    text::say(text::part(strips, place(port, 0), 24));
-    line::tell(b"%:%:%m\n", tally::row(counts, port));
+fn strip_told<W: Write>(
+    out: &mut W,
+    counts: &[u64; tally::COUNTS],
+    strips: &[u8; 456],
+    port: u8,
+) -> io::Result<()> {
+    line::tell(out, b"%4  ", &[port as u64])?;
+    text::say(out, text::part(strips, place(port, 0), 24))?;
+    line::tell(out, b"%:%:%m\n", tally::row(counts, port))
 }
 
 // The strips of the ports that heard anything.
-fn table(counts: &[u64; tally::COUNTS], strips: &[u8; 456]) {
+fn table<W: Write>(
+    out: &mut W,
+    counts: &[u64; tally::COUNTS],
+    strips: &[u8; 456],
+) -> io::Result<()> {
     let mut port: u8 = 1;
     while port < 19 {
         if tally::heard(counts, port) {
-            strip_told(counts, strips, port);
+            strip_told(out, counts, strips, port)?;
         }
         port += 1;
     }
+    Ok(())
 }
 
 // The ports that heard nothing, in one line.
-fn silent(counts: &[u64; tally::COUNTS]) {
+fn silent<W: Write>(out: &mut W, counts: &[u64; tally::COUNTS]) -> io::Result<()> {
     let mut port: u8 = 1;
     while port < 19 {
         if !tally::heard(counts, port) {
-            line::tell(b" %d", &[port as u64]);
+            line::tell(out, b" %d", &[port as u64])?;
         }
         port += 1;
     }
+    Ok(())
 }
 
 // What the letters and the refusals mean.
-fn explained() {
+fn explained<W: Write>(out: &mut W) -> io::Result<()> {
     text::say(
+        out,
         b"a letter an hour: s follows the parent, b backup, m master, p passive; a capital where Announces were refused in that hour\n",
-    );
+    )?;
     text::say(
+        out,
         b"refusals: 9 DOMAIN another domain, 10 OWN our own clock, 11 BACKWARD the time runs back, 12 STALE sequenceId not newer,\n",
-    );
+    )?;
     text::say(
+        out,
         b"          13 FULL a new name and sixteen live records; 1 to 7: not a message that can be read\n",
-    );
+    )
 }
 
 // All of them, and what they mean.
-pub fn told(counts: &[u64; tally::COUNTS], strips: &[u8; 456]) {
-    text::say(b"\nport  00    06    12    18         taken   refused  last refusal\n");
-    table(counts, strips);
-    explained();
-    text::say(b"ports that heard nothing:");
-    silent(counts);
-    text::say(b"\n");
+pub fn told<W: Write>(
+    out: &mut W,
+    counts: &[u64; tally::COUNTS],
+    strips: &[u8; 456],
+) -> io::Result<()> {
+    text::say(
+        out,
+        b"\nport  00    06    12    18         taken   refused  last refusal\n",
+    )?;
+    table(out, counts, strips)?;
+    explained(out)?;
+    text::say(out, b"ports that heard nothing:")?;
+    silent(out, counts)?;
+    text::say(out, b"\n")
 }

@@ -1,7 +1,8 @@
-// Words and numbers, each written to standard output at once.
+// Words and numbers, written one after another.
 ghost use Rattle.std.specs.Prelude.{◌≤◌};
 
-use libc::STDOUT_FILENO;
+use std::io;
+use std::io::Write;
 
 // The smaller of two.
 fn least(a: usize, b: usize) -> usize
@@ -23,13 +24,21 @@ pub fn part(s: &[u8], at: usize, n: usize) -> &[u8] {
 }
 
 // Words, as they stand.
-pub fn say(words: &[u8]) {
-    io::write_all(STDOUT_FILENO, words);
+pub fn say<W: Write>(out: &mut W, words: &[u8]) -> io::Result<()> {
+    out.write_all(words)
 }
 
 // A number in decimal.
-pub fn number(value: u64) {
-    io::print_decimal(STDOUT_FILENO, value);
+pub fn number<W: Write>(out: &mut W, value: u64) -> io::Result<()> {
+    write!(out, "{value}")
+}
+
+// How many digits a number has in decimal.
+fn digits_of(value: u64) -> usize {
+    match value.checked_ilog10() {
+        Some(k) => k as usize + 1,
+        None => 1,
+    }
 }
 
 // How many blanks bring so many digits to the right end of a column; one at least.
@@ -38,54 +47,56 @@ fn room(digits: usize, width: usize) -> usize {
 }
 
 // The blanks before so many digits in a column.
-fn blanks(digits: usize, width: usize) {
-    say(front(b"                              ", room(digits, width)));
+fn blanks<W: Write>(out: &mut W, digits: usize, width: usize) -> io::Result<()> {
+    say(
+        out,
+        front(b"                              ", room(digits, width)),
+    )
 }
 
 // A number at the right end of a column behind a sign, with a blank before it at least.
-pub fn signed(sign: &[u8], value: u64, width: usize) {
-    let mut digits = [0u8; 20];
-    let k = io::decimal(value, &mut digits);
-    blanks(std::num::wrapping_add_usize(k, sign.len()), width);
-    say(sign);
-    say(&digits[..k]);
+pub fn signed<W: Write>(out: &mut W, sign: &[u8], value: u64, width: usize) -> io::Result<()> {
+    let k = digits_of(value);
+    blanks(out, std::num::wrapping_add_usize(k, sign.len()), width)?;
+    say(out, sign)?;
+    number(out, value)
 }
 
 // Two digits behind words.
-pub fn two(words: &[u8], value: u64) {
+pub fn two<W: Write>(out: &mut W, words: &[u8], value: u64) -> io::Result<()> {
     let tens = b'0' + (value / 10 % 10) as u8;
     let ones = b'0' + (value % 10) as u8;
-    say(words);
-    say(&[tens, ones]);
+    say(out, words)?;
+    say(out, &[tens, ones])
 }
 
 // A time of the day in nanoseconds, as hours, minutes and seconds.
-pub fn moment(t: u64) {
+pub fn moment<W: Write>(out: &mut W, t: u64) -> io::Result<()> {
     let seconds = t / 1_000_000_000;
-    two(b"", seconds / 3600);
-    two(b":", seconds / 60 % 60);
-    two(b":", seconds % 60);
+    two(out, b"", seconds / 3600)?;
+    two(out, b":", seconds / 60 % 60)?;
+    two(out, b":", seconds % 60)
 }
 
 // Nanoseconds times 2^16 behind a sign as nanoseconds and picoseconds, the nanoseconds at the right end of a column.
-fn scaled(sign: &[u8], value: u64, width: usize) {
+fn scaled<W: Write>(out: &mut W, sign: &[u8], value: u64, width: usize) -> io::Result<()> {
     let rest = value % 65536 * 1000 / 65536;
-    signed(sign, value / 65536, width);
-    two(b".", rest / 10);
-    number(rest % 10);
+    signed(out, sign, value / 65536, width)?;
+    two(out, b".", rest / 10)?;
+    number(out, rest % 10)
 }
 
 // Stands for nanoseconds that are not known.
 pub const NONE: u64 = 0x8000_0000_0000_0000;
 
 // The same of a number in two's complement.
-pub fn nanoseconds(value: u64, width: usize) {
+pub fn nanoseconds<W: Write>(out: &mut W, value: u64, width: usize) -> io::Result<()> {
     if value == NONE {
-        blanks(1, width);
-        say(b"-   ");
+        blanks(out, 1, width)?;
+        say(out, b"-   ")
     } else if value < NONE {
-        scaled(b"", value, width);
+        scaled(out, b"", value, width)
     } else {
-        scaled(b"-", std::num::wrapping_sub_u64(0, value), width);
+        scaled(out, b"-", std::num::wrapping_sub_u64(0, value), width)
     }
 }
