@@ -3,6 +3,8 @@ use crate::{Parent, kept, named};
 use rank::Grandmaster;
 use senders::Record;
 use slots::Seen;
+use std::io;
+use std::io::Write;
 
 // How many of three are true.
 fn three(a: bool, b: bool, c: bool) -> u64 {
@@ -21,15 +23,16 @@ fn equal(a: Grandmaster, b: Grandmaster) -> u64 {
 }
 
 // Which Announce won.
-fn winner(s: Seen) {
+fn winner<W: Write>(out: &mut W, s: Seen) -> io::Result<()> {
     let Seen::Held(r) = s else {
-        return;
+        return Ok(());
     };
     let notice = r.notice;
     page::tell(
+        out,
         b", by its Announce %d of %t",
         &[notice.sequence as u64, r.newest],
-    );
+    )
 }
 
 // What a record's sender announced; our own quality where there is none.
@@ -44,67 +47,84 @@ fn grade(s: Seen, own: Grandmaster) -> Grandmaster {
 }
 
 // Why a clock that fell silent is not the parent any more.
-fn silent(r: Record, window: u64, t: u64) {
+fn silent<W: Write>(out: &mut W, r: Record, window: u64, t: u64) -> io::Result<()> {
     let seconds = window / 1_000_000_000;
     if senders::is_live(r, window, t) {
         page::tell(
+            out,
             b": last heard at %t, not twice in its window of %d s\n",
             &[r.newest, seconds],
-        );
+        )
     } else {
         page::tell(
+            out,
             b": last heard at %t, not at all in its window of %d s\n",
             &[r.newest, seconds],
-        );
+        )
     }
 }
 
 // Why a clock that is still heard is not: it says itself how far away its grandmaster is.
-fn distant(steps: u16) {
+fn distant<W: Write>(out: &mut W, steps: u16) -> io::Result<()> {
     page::tell(
+        out,
         b": %d steps from its grandmaster, and %d are the most that count\n",
         &[steps as u64, senders::DISTANT as u64 - 1],
-    );
+    )
 }
 
 // Or another is better.
-fn beaten(new: Grandmaster, old: Grandmaster) {
-    page::tell(b": worse by %f\n", &[equal(new, old)]);
+fn beaten<W: Write>(out: &mut W, new: Grandmaster, old: Grandmaster) -> io::Result<()> {
+    page::tell(out, b": worse by %f\n", &[equal(new, old)])
 }
 
 // Why the sender of a record is not.
-fn lost(r: Record, window: u64, t: u64, new: Grandmaster) {
+fn lost<W: Write>(out: &mut W, r: Record, window: u64, t: u64, new: Grandmaster) -> io::Result<()> {
     let notice = r.notice;
     if senders::is_distant(notice) {
-        distant(notice.steps);
+        distant(out, notice.steps)
     } else if senders::is_qualified(r, window, t) {
-        beaten(new, notice.grandmaster);
+        beaten(out, new, notice.grandmaster)
     } else {
-        silent(r, window, t);
+        silent(out, r, window, t)
     }
 }
 
-fn loser(s: Seen, window: u64, t: u64, new: Grandmaster, own: Grandmaster) {
+fn loser<W: Write>(
+    out: &mut W,
+    s: Seen,
+    window: u64,
+    t: u64,
+    new: Grandmaster,
+    own: Grandmaster,
+) -> io::Result<()> {
     match s {
-        Seen::Held(r) => lost(r, window, t, new),
-        Seen::Empty => beaten(new, own),
+        Seen::Held(r) => lost(out, r, window, t, new),
+        Seen::Empty => beaten(out, new, own),
     }
 }
 
 // The parent that is there now, and by which Announce.
-fn come(p: Parent, is: Seen, t: u64) {
-    page::tell(b"%t  parent: ", &[t]);
-    named(p);
-    winner(is);
-    page::say(b"\n          before: ");
+fn come<W: Write>(out: &mut W, p: Parent, is: Seen, t: u64) -> io::Result<()> {
+    page::tell(out, b"%t  parent: ", &[t])?;
+    named(out, p)?;
+    winner(out, is)?;
+    page::say(out, b"\n          before: ")
 }
 
 // A change of parent at `t`: the new one, by which Announce, the one before, and why it is not the parent any more.
-pub fn told(words: &[u64; ports::WORDS], old: Parent, new: Parent, t: u64, own: Grandmaster) {
+pub fn told<W: Write>(
+    out: &mut W,
+    words: &[u64; ports::WORDS],
+    old: Parent,
+    new: Parent,
+    t: u64,
+    own: Grandmaster,
+) -> io::Result<()> {
     let is = kept::record(words, new);
     let was = kept::record(words, old);
     let window = kept::window(words, old.port);
-    come(new, is, t);
-    named(old);
-    loser(was, window, t, grade(is, own), own);
+    come(out, new, is, t)?;
+    named(out, old)?;
+    loser(out, was, window, t, grade(is, own), own)
 }

@@ -3,6 +3,8 @@ use crate::Parent;
 use ports::asking::{Looked, Status};
 use rank::PortIdentity;
 use slots::Seen;
+use std::io;
+use std::io::Write;
 
 // How many records of a port are live, and how many of those are candidates.
 #[derive(Clone, Copy)]
@@ -80,14 +82,22 @@ pub fn record(words: &[u64; ports::WORDS], p: Parent) -> Seen {
 }
 
 // What a port that was flooded keeps, and who the parent is meanwhile; nothing where there is no such port.
-pub fn meanwhile(words: &[u64; ports::WORDS], port: u8, t: u64, p: Parent) {
+pub fn meanwhile<W: Write>(
+    out: &mut W,
+    words: &[u64; ports::WORDS],
+    port: u8,
+    t: u64,
+    p: Parent,
+) -> io::Result<()> {
     if port != 0 {
         let n = kept(words, port, t);
         page::tell(
+            out,
             b"          meanwhile: %d/16 records live, %d of them candidates; parent: ",
             &[n.live, n.candidates],
-        );
-        crate::named(p);
-        page::say(b"\n");
+        )?;
+        crate::named(out, p)?;
+        page::say(out, b"\n")?;
     }
+    Ok(())
 }

@@ -4,6 +4,8 @@
 // is printed, so but for `cards::ranked` its functions have none that fixes an answer: they are proved to end and to stay in
 // bounds, and what they print is compared with a stored page.
 use rank::Candidate;
+use std::io;
+use std::io::Write;
 
 pub mod cards;
 pub mod change;
@@ -29,10 +31,10 @@ pub fn sender_of(c: Candidate) -> Parent {
 }
 
 // A parent by its name.
-pub fn named(p: Parent) {
+pub fn named<W: Write>(out: &mut W, p: Parent) -> io::Result<()> {
     if p.port == 0 {
-        page::say(b"our own clock");
+        page::say(out, b"our own clock")
     } else {
-        page::tell(b"%x on port %d", &[p.clock, p.port as u64]);
+        page::tell(out, b"%x on port %d", &[p.clock, p.port as u64])
     }
 }

@@ -8,6 +8,8 @@ use delay::{
 };
 use page::tally;
 use page::tally::COUNTS;
+use std::io;
+use std::io::Write;
 
 // A nanosecond and a picosecond, times 2^16.
 const SCALE: u64 = 65536;
@@ -147,7 +149,7 @@ fn offset_at(counts: &[u64; COUNTS], h: usize) -> u64 {
 }
 
 // Six hours of offsets a line.
-fn offsets_told(counts: &[u64; COUNTS]) {
+fn offsets_told<W: Write>(out: &mut W, counts: &[u64; COUNTS]) -> io::Result<()> {
     let mut offsets = [0u64; 24];
     let mut h: usize = 0;
     while h < 24 {
@@ -155,6 +157,7 @@ fn offsets_told(counts: &[u64; COUNTS]) {
         h += 1;
     }
     page::tell(
+        out,
         b"
 offset from the parent at each hour's end, ns
   00%o%o%o%o%o%o
@@ -163,24 +166,25 @@ offset from the parent at each hour's end, ns
   18%o%o%o%o%o%o
 ",
         &offsets,
-    );
+    )
 }
 
 // The day's last delay and offset, in a line.
-fn last_told(m: Measurement) {
+fn last_told<W: Write>(out: &mut W, m: Measurement) -> io::Result<()> {
     match m {
         Measurement::Measured(d, x) => page::tell(
+            out,
             b"delay%s ns, offset%s ns\n",
             &[octets::bits64(d.0), near(x)],
         ),
-        Measurement::Refused(x) => page::tell(b"refused: %n\n", &[refusal::number(x)]),
+        Measurement::Refused(x) => page::tell(out, b"refused: %n\n", &[refusal::number(x)]),
     }
 }
 
 // The day's last delay and offset from the parent, and the offsets of all hours.
-pub fn told(counts: &[u64; COUNTS], parent: u64) {
+pub fn told<W: Write>(out: &mut W, counts: &[u64; COUNTS], parent: u64) -> io::Result<()> {
     if parent != OURS {
-        last_told(measured(parent, 23));
+        last_told(out, measured(parent, 23))?;
     }
-    offsets_told(counts);
+    offsets_told(out, counts)
 }

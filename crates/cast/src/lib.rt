@@ -7,6 +7,8 @@ use page::tally;
 use page::tally::COUNTS;
 use ports::intake::Settings;
 use rank::Grandmaster;
+use std::io;
+use std::io::Write;
 
 pub mod exchange;
 pub mod tape;
@@ -364,88 +366,107 @@ fn announced(k: u64, second: u64) -> Said {
 }
 
 // One Announce: recorded, and taken from the octets that its sender wrote; and what became of it.
-fn heard(
+fn heard<F: Write>(
     words: &mut [u64; ports::WORDS],
     counts: &mut [u64; COUNTS],
     opened: &mut [u8; block::OCTETS],
     tape: &mut [u64; recording::WORDS],
-    file: i32,
+    file: &mut Option<F>,
     s: Said,
-) {
+) -> io::Result<()> {
     let by = s.by;
     let length = ANNOUNCE + s.tail % 16;
     let sent = announce(by, s.sequence, length);
     let octets = page::front(&sent, length as usize);
-    tape::record(opened, tape, file, by.port, s.t, octets);
+    tape::record(opened, tape, file, by.port, s.t, octets)?;
     let x = ports::intake::take(words, by.port, s.t, octets, settings());
     tally::note(counts, by.port, x);
+    Ok(())
 }
 
 // The Announces of a second from number `from` to `to`, one after another.
-fn hear(
+fn hear<F: Write>(
     words: &mut [u64; ports::WORDS],
     counts: &mut [u64; COUNTS],
     opened: &mut [u8; block::OCTETS],
     tape: &mut [u64; recording::WORDS],
-    file: i32,
+    file: &mut Option<F>,
     second: u64,
     from: u64,
     to: u64,
-) {
+) -> io::Result<()> {
     let mut k = from;
     while k < to {
-        heard(words, counts, opened, tape, file, announced(k, second));
+        heard(words, counts, opened, tape, file, announced(k, second))?;
         k += 1;
     }
+    Ok(())
 }
 
 // ---- What the page says of it
 
 // What became of so many Announces of a tenant in this hour.
-fn tried(counts: &[u64; COUNTS], words: &[u8], t: u64, port: u8, all: u64) {
+fn tried<W: Write>(
+    out: &mut W,
+    counts: &[u64; COUNTS],
+    words: &[u8],
+    t: u64,
+    port: u8,
+    all: u64,
+) -> io::Result<()> {
     let refused = tally::of(counts, port, tally::LATELY);
     let last = tally::of(counts, port, tally::LAST);
     let taken = std::num::wrapping_sub_u64(all, refused);
-    page::tell(words, &[t, port as u64, taken, refused, last]);
+    page::tell(out, words, &[t, port as u64, taken, refused, last])
 }
 
 // Behind the last Announce that the cable brings.
-fn loop_told(counts: &[u64; COUNTS], second: u64) {
+fn loop_told<W: Write>(out: &mut W, counts: &[u64; COUNTS], second: u64) -> io::Result<()> {
     if second % 3600 == LOOPED - BEAT {
         tried(
+            out,
             counts,
             b"%t  port %d: a tenant's cable brings our own Announces back: %d Announces taken, %d refused with %n\n",
             instant(second),
             CABLE,
             BROUGHT,
-        );
+        )?;
     }
+    Ok(())
 }
 
 // Behind the last beat of a flood: its port then, else 0.
-fn flood_told(counts: &[u64; COUNTS], port: u8, second: u64) -> u8 {
+fn flood_told<W: Write>(
+    out: &mut W,
+    counts: &[u64; COUNTS],
+    port: u8,
+    second: u64,
+) -> io::Result<u8> {
     if second % 3600 != FLOODED - BEAT {
-        return 0;
+        return Ok(0);
     }
     tried(
+        out,
         counts,
         b"%t  port %d: 10000 new names, each heard twice: %d Announces taken, %d refused with %n\n",
         flood_end(second),
         port,
         FLOOD,
-    );
-    port
+    )?;
+    Ok(port)
 }
 
 // Where the echo begins, and where it is so far away that it does not count any more.
-fn echo_told(counts: &[u64; COUNTS], t: u64, steps: u16) {
+fn echo_told<W: Write>(out: &mut W, counts: &[u64; COUNTS], t: u64, steps: u16) -> io::Result<()> {
     if steps == 1 {
         page::tell(
+            out,
             b"%t  port %d: two clocks of a tenant follow each other and announce %x, a step more each time\n",
             &[t, CORNER as u64, FIRST],
-        );
+        )?;
     } else if steps == senders::DISTANT {
         page::tell(
+            out,
             b"%t  port %d: the loop goes on: %d Announces taken, the last of %d steps\n",
             &[
                 t,
@@ -453,22 +474,23 @@ fn echo_told(counts: &[u64; COUNTS], t: u64, steps: u16) {
                 tally::of(counts, CORNER, tally::TAKEN),
                 steps as u64,
             ],
-        );
+        )?;
     }
+    Ok(())
 }
 
 // What tenants did at a second: the port on which a flood is over with it, else 0.
-fn told(counts: &[u64; COUNTS], second: u64) -> u8 {
+fn told<W: Write>(out: &mut W, counts: &[u64; COUNTS], second: u64) -> io::Result<u8> {
     match trouble_at(second) {
-        Trouble::Nothing => 0,
+        Trouble::Nothing => Ok(0),
         Trouble::Cable => {
-            loop_told(counts, second);
-            0
+            loop_told(out, counts, second)?;
+            Ok(0)
         }
-        Trouble::Flood(port) => flood_told(counts, port, second),
+        Trouble::Flood(port) => flood_told(out, counts, port, second),
         Trouble::Echo => {
-            echo_told(counts, instant(second), rounds(second));
-            0
+            echo_told(out, counts, instant(second), rounds(second))?;
+            Ok(0)
         }
     }
 }
@@ -476,14 +498,14 @@ fn told(counts: &[u64; COUNTS], second: u64) -> u8 {
 // ---- A second
 
 // What every beat brings: an Announce of each of those that are there.
-pub fn beat(
+pub fn beat<F: Write>(
     words: &mut [u64; ports::WORDS],
     counts: &mut [u64; COUNTS],
     opened: &mut [u8; block::OCTETS],
     tape: &mut [u64; recording::WORDS],
-    file: i32,
+    file: &mut Option<F>,
     second: u64,
-) {
+) -> io::Result<()> {
     hear(
         words,
         counts,
@@ -493,18 +515,19 @@ pub fn beat(
         second,
         begin(second),
         SPEAKERS,
-    );
+    )
 }
 
 // What the tenants do behind the beat of a second: the port on which a flood is over with it, else 0.
-pub fn tenants(
+pub fn tenants<W: Write, F: Write>(
+    out: &mut W,
     words: &mut [u64; ports::WORDS],
     counts: &mut [u64; COUNTS],
     opened: &mut [u8; block::OCTETS],
     tape: &mut [u64; recording::WORDS],
-    file: i32,
+    file: &mut Option<F>,
     second: u64,
-) -> u8 {
+) -> io::Result<u8> {
     hear(
         words,
         counts,
@@ -514,6 +537,6 @@ pub fn tenants(
         second,
         SPEAKERS,
         end(second),
-    );
-    told(counts, second)
+    )?;
+    told(out, counts, second)
 }

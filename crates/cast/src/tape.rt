@@ -1,39 +1,56 @@
 // The day's trace: what the ports hear is recorded as it arrives, and each block goes to a file when it is closed. The program keeps the recording, its open
 // block and its words.
 use recording::Recorded;
+use std::env::Env;
+use std::fs::Files;
+use std::io::Write;
+use std::{fs, io};
 
-// The file that the program's first argument names, emptied; -1 where there is none, and then blocks go nowhere.
-pub fn file() -> i32 {
-    let mut name = io::buffer();
-    let n = os::arg(1, &mut name);
-    os::open_overwrite(&name[..n])
+// The file that the program's first argument names, emptied; none where there is no argument or the file cannot be made, and then blocks go nowhere.
+pub fn file<R: Env + Files>(rt: &R) -> Option<R::File> {
+    let mut name = [0u8; 4096];
+    let Ok(n) = rt.arg(1, &mut name) else {
+        return None;
+    };
+    match std::str::from_utf8(&name[..n]) {
+        Ok(path) => fs::create(rt, path).ok(),
+        Err(_) => None,
+    }
 }
 
-fn written(file: i32, closed: &[u8; block::OCTETS]) {
-    io::write_all(file, closed);
+fn written<F: Write>(file: &mut Option<F>, closed: &[u8; block::OCTETS]) -> io::Result<()> {
+    match file {
+        Some(to) => to.write_all(closed),
+        None => Ok(()),
+    }
 }
 
 // Records what was heard on a port at `t`.
-pub fn record(
+pub fn record<F: Write>(
     opened: &mut [u8; block::OCTETS],
     tape: &mut [u64; recording::WORDS],
-    file: i32,
+    file: &mut Option<F>,
     port: u8,
     t: u64,
     octets: &[u8],
-) {
+) -> io::Result<()> {
     let mut out = [0u8; block::OCTETS];
     match recording::record(opened, tape, port, t, octets, &mut out) {
-        Recorded::Refused(_) => {}
-        Recorded::Kept => {}
+        Recorded::Refused(_) => Ok(()),
+        Recorded::Kept => Ok(()),
         Recorded::Closed => written(file, &out),
     }
 }
 
 // The last block, at the end of the day.
-pub fn finish(opened: &[u8; block::OCTETS], tape: &[u64; recording::WORDS], file: i32) {
+pub fn finish<F: Write>(
+    opened: &[u8; block::OCTETS],
+    tape: &[u64; recording::WORDS],
+    file: &mut Option<F>,
+) -> io::Result<()> {
     let mut out = [0u8; block::OCTETS];
     if recording::finish(opened, tape, &mut out) {
-        written(file, &out);
+        written(file, &out)?;
     }
+    Ok(())
 }

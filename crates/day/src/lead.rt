@@ -2,6 +2,8 @@
 use board::Parent;
 use election::Leader;
 use rank::Grandmaster;
+use std::io;
+use std::io::Write;
 
 // Our own clock.
 pub fn ours(own: Grandmaster) -> Parent {
@@ -33,10 +35,16 @@ fn by_ports(words: &[u64; ports::WORDS], t: u64, own: Grandmaster) -> Parent {
 }
 
 // The parent at `t`; where it is another than before, the page says why.
-pub fn watched(words: &[u64; ports::WORDS], old: Parent, t: u64, own: Grandmaster) -> Parent {
+pub fn watched<W: Write>(
+    out: &mut W,
+    words: &[u64; ports::WORDS],
+    old: Parent,
+    t: u64,
+    own: Grandmaster,
+) -> io::Result<Parent> {
     let new = by_ports(words, t, own);
     if (new.clock != old.clock) | (new.port != old.port) {
-        board::change::told(words, old, new, t, own);
+        board::change::told(out, words, old, new, t, own)?;
     }
-    new
+    Ok(new)
 }

@@ -7,6 +7,8 @@
 use ports::intake::Settings;
 use rank::Grandmaster;
 use refusal::Outcome;
+use std::io;
+use std::io::{BufReader, BufWriter, Read, Write};
 
 // What an Announce is judged by.
 fn settings() -> Settings {
@@ -47,75 +49,104 @@ fn told_by(x: Outcome) -> Came {
     }
 }
 
-// Reads a block and replays it.
-fn next(words: &mut [u64; ports::WORDS], reader: &mut [u64; playback::READER]) -> Came {
-    let mut space = [0u8; block::OCTETS];
-    let n = io::read_full(libc::STDIN_FILENO, &mut space);
-    if n == 0 {
-        return Came::End;
+// Reads until the space is full or the input ends: how many octets it put at the start of the space.
+fn read_full<I: Read>(input: &mut I, space: &mut [u8]) -> io::Result<usize>
+    ensures { IfOk result (λ n. n ≤ length space.new) }
+{
+    let mut done: usize = 0;
+    while done < space.len() {
+        let n = input.read(&mut space[done..])?;
+        if n == 0 {
+            return Ok(done);
+        }
+        done += n;
     }
-    told_by(playback::replay_block(words, reader, &space[..n], settings()))
+    Ok(done)
+}
+
+// Reads a block and replays it.
+fn next<I: Read>(
+    input: &mut I,
+    words: &mut [u64; ports::WORDS],
+    reader: &mut [u64; playback::READER],
+) -> io::Result<Came> {
+    let mut space = [0u8; block::OCTETS];
+    let n = read_full(input, &mut space)?;
+    if n == 0 {
+        return Ok(Came::End);
+    }
+    Ok(told_by(playback::replay_block(words, reader, &space[..n], settings())))
 }
 
 // Replays all blocks: whether none is refused.
-fn replayed(words: &mut [u64; ports::WORDS], reader: &mut [u64; playback::READER]) -> bool {
+fn replayed<I: Read>(
+    input: &mut I,
+    words: &mut [u64; ports::WORDS],
+    reader: &mut [u64; playback::READER],
+) -> io::Result<bool> {
     let mut left: u64 = TURNS;
     while left > 0 {
-        match next(words, reader) {
-            Came::End => return true,
+        match next(input, words, reader)? {
+            Came::End => return Ok(true),
             Came::Block => {}
-            Came::Wrong => return false,
+            Came::Wrong => return Ok(false),
         }
         left -= 1;
     }
-    true
+    Ok(true)
 }
 
 // Reads a block and looks away: whether standard input has ended.
-fn is_over() -> bool {
+fn is_over<I: Read>(input: &mut I) -> io::Result<bool> {
     let mut space = [0u8; block::OCTETS];
-    io::read_full(libc::STDIN_FILENO, &mut space) == 0
+    let n = read_full(input, &mut space)?;
+    Ok(n == 0)
 }
 
 // Reads what is left of standard input, so that whoever writes it can go on to its end.
-fn pass_over() {
+fn pass_over<I: Read>(input: &mut I) -> io::Result<()> {
     let mut left: u64 = 0xffff_ffff_ffff_ffff;
     while left > 0 {
-        if is_over() {
-            return;
+        if is_over(input)? {
+            return Ok(());
         }
         left -= 1;
     }
+    Ok(())
 }
 
 // A port and its decision.
-fn line(port: u8, decision: u8) {
-    page::tell(b"%d %c\n", &[port as u64, decision as u64]);
+fn line<W: Write>(out: &mut W, port: u8, decision: u8) -> io::Result<()> {
+    page::tell(out, b"%d %c\n", &[port as u64, decision as u64])
 }
 
 // The same of every port.
-fn lines(decisions: &[u8; refusal::PORTS]) {
+fn lines<W: Write>(out: &mut W, decisions: &[u8; refusal::PORTS]) -> io::Result<()> {
     let mut i: u8 = 0;
     while i < 18 {
-        line(i + 1, decisions[i as usize]);
+        line(out, i + 1, decisions[i as usize])?;
         i += 1;
     }
+    Ok(())
 }
 
 // Each port's decision at `t`.
-fn told(words: &[u64; ports::WORDS], t: u64) {
+fn told<W: Write>(out: &mut W, words: &[u64; ports::WORDS], t: u64) -> io::Result<()> {
     let mut decisions = [0u8; refusal::PORTS];
     election::decide_all(words, own(), t, &mut decisions);
-    lines(&decisions);
+    lines(out, &decisions)
 }
 
-fn main() {
+fn main(rt: HostRuntime) -> io::Result<()> {
+    let mut input = BufReader::new(rt.alloc(), rt.reader())?;
+    let mut out = BufWriter::new(rt.alloc(), io::writer(&rt))?;
     let mut words = [0u64; ports::WORDS];
     let mut reader = [0u64; playback::READER];
-    if replayed(&mut words, &mut reader) {
-        told(&words, reader[1]);
+    if replayed(&mut input, &mut words, &mut reader)? {
+        told(&mut out, &words, reader[1])?;
     } else {
-        pass_over();
-        page::say(b"refused 20\n");
+        pass_over(&mut input)?;
+        page::say(&mut out, b"refused 20\n")?;
     }
+    out.flush()
 }

@@ -3,6 +3,8 @@
 // sends is counted. What happens is made up, so there is nothing that a contract could hold it to: its functions are proved to end
 // and to stay in bounds.
 use link::{Event, Link, Sends, Settings, Stepped};
+use std::io;
+use std::io::Write;
 use tlv::form::{CALIBRATE, CALIBRATED, LOCK, MODE_ON};
 
 // The nanoseconds of a second.
@@ -81,17 +83,19 @@ fn bring_up(flags: u16) -> Rise {
 }
 
 // A link brought up at `t`, or not.
-fn told(port: u8, r: Rise, t: u64) {
+fn told<W: Write>(out: &mut W, port: u8, r: Rise, t: u64) -> io::Result<()> {
     if r.on {
         page::tell(
+            out,
             b"%t  port %d: White Rabbit link on after %d events; messages sent: %d\n",
             &[t, port as u64, r.events, r.sent],
-        );
+        )
     } else {
         page::tell(
+            out,
             b"%t  port %d: White Rabbit link not on\n",
             &[t, port as u64],
-        );
+        )
     }
 }
 
@@ -101,8 +105,9 @@ const FIRST: u64 = 3600;
 const SECOND: u64 = 14 * 3600;
 
 // The link to the parent on `port`, at those seconds.
-pub fn begun(port: u8, flags: u16, second: u64) {
+pub fn begun<W: Write>(out: &mut W, port: u8, flags: u16, second: u64) -> io::Result<()> {
     if (second == FIRST) | (second == SECOND) {
-        told(port, bring_up(flags), second % 86_400 * NANOS);
+        told(out, port, bring_up(flags), second % 86_400 * NANOS)?;
     }
+    Ok(())
 }

@@ -1,0 +1,6 @@
+-- `read_full` is safe and ends, and fills no more than the space: the room that is left falls.
+use Rattle.std.proofs.Common.{◌-◌, length}
+use Rattle.replay.proofs.read_full.Given as goal
+
+abbrev pub decreases-loop-done : goal.decreases-loop-done
+decreases-loop-done g l = length l.space.old - l.done
