@@ -1,5 +1,5 @@
 -- The limits of writing, by 01's numbers. Where a limit is not passed, the answer is that of a message well within it, whatever the tail.
-use Prim.Native.Nat.{ℕ, ◌^◌}
+use Prim.Native.Nat.{ℕ}
 use mathlib.Core.Path.{◌≡◌, refl}
 use mathlib.Core.List.{List}
 use lib.IntN.{pos}

@@ -1,0 +1,8 @@
+-- `writing::stamp_fits` meets its contract: the two tests are the definition's.
+use borrow.Author.Rules.{rules}
+use Rattle.writer.specs.Writing.{stamp_fits}
+use Rattle.writer.proofs.writing.stamp_fits.Goals as goal
+
+pub returns : goal.returns
+unfolding stamp_fits
+returns c = search rules
