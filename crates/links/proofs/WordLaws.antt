@@ -10,8 +10,8 @@ use lib.ListN.{length, get_or, set, length-set}
 use lib.Seq.{get_or-set_same, get_or-set_other}
 pub use Rattle.refusal.proofs.Limits.{port_bounds as port-range}
 use Rattle.refusal.specs.Choice.{refuse}
-use lib.Dec.{eqb, leb, ltb}
-use borrow.Author.Tests.{leb-true, le-ltb, ltb-true, ltb-false}
+use lib.Dec.{eqb, ltb}
+use borrow.Author.Tests.{le-ltb, ltb-true, ltb-false}
 use Rattle.link.specs.declared.Role.{Role}
 use Rattle.link.specs.declared.Role.TheVariants.{Slave, Master}
 use Rattle.link.specs.declared.State.{State}

@@ -1,6 +1,6 @@
 -- How eighteen links and their settings lie in the words that the host lends: four words a port, the link's, its settings', deltaTx
 -- and deltaRx. Any words are links; zeroed words are fresh ones, with config 0.
-use Rattle.std.specs.Prelude.{ℕ, ◌+◌, ◌-◌, ◌*◌, ◌/◌, ◌%◌, Bool, not, ◌&&◌, List, get_or, set, eqb, leb, ltb}
+use Rattle.std.specs.Prelude.{ℕ, ◌+◌, ◌-◌, ◌*◌, ◌/◌, ◌%◌, Bool, not, List, get_or, set, eqb, ltb}
 use Rattle.refusal.specs.Limits.{is_port}
 use Rattle.refusal.specs.Choice.{pick, refuse}
 use Rattle.refusal.specs.declared.Outcome.{Outcome}

@@ -3,13 +3,9 @@ use mathlib.Core.Path.{sym}
 use mathlib.Core.Bool.{false}
 use Rattle.links.specs.Brief.{brief_of}
 use Rattle.links.proofs.BriefLaws.{word_is}
-use Rattle.links.proofs.brief.ignored.Statement.{statement}
-use Rattle.links.proofs.brief.ignored.Tie as tie
+use Rattle.links.proofs.brief.ignored.Goals as goal
 
-returns : tie.Need-returns
+pub returns : goal.returns
 unfolding brief_of
 returns c =
     λ i. record { word = sym (word_is c.args.w) i; sends = 0; both = false; report = false }
-
-pub ignored-spec : {M : Type 1} → statement M
-ignored-spec = tie.close (tie.spec returns)
