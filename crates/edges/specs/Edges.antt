@@ -6,7 +6,6 @@ use Rattle.refusal.specs.declared.Outcome.TheVariants.{Done, Refused}
 use Rattle.tlv.specs.Faults.{fault_of}
 use Rattle.tlv.specs.declared.walk.Fault.TheVariants.{Broken}
 use Rattle.tlv.specs.Wr.{suffix_in}
-use Rattle.tlv.specs.declared.wr.Suffix.{Suffix}
 use Rattle.tlv.specs.declared.wr.Suffix.TheVariants.{Flags}
 use Rattle.rank.specs.Calls.{ranking_of, done_of}
 use Rattle.rank.specs.declared.Candidate.{Candidate}
@@ -16,7 +15,6 @@ use Rattle.senders.specs.Record.{window_of, is_live, is_qualified}
 use Rattle.senders.specs.Port.{Port, empty_slot, tab, plan_of, port_after, outcome_of}
 use Rattle.decide.specs.Comparing.{compare_of}
 use Rattle.decide.specs.declared.DataSet.{DataSet}
-use Rattle.decide.specs.declared.Comparison.{Comparison}
 use Rattle.decide.specs.declared.Comparison.TheVariants.{BBetter}
 use Rattle.delay.specs.Answer.{measure_of}
 use Rattle.delay.specs.declared.Exchange.{Exchange}
