@@ -1,6 +1,6 @@
 -- WHAT STANDS BEFORE THE PLACE OF A 6 IS SOUND: the same octets with messageLength set to that place are not refused with 6 again, nor
 -- with any other number but 7, for a known message of a wrong size that stands before it.
-use Prim.Native.Nat.{ℕ, suc, ◌+◌, ◌-◌, ◌*◌, ◌<◌, ◌≤◌}
+use Prim.Native.Nat.{ℕ, suc, ◌+◌, ◌-◌, ◌≤◌}
 use mathlib.Core.Path.{◌≡◌, refl, sym, ap, ◌∙◌}
 use mathlib.Core.List.{List}
 use mathlib.Core.Bool.{Bool, true, false}
@@ -11,21 +11,20 @@ use lib.ListN.{length, take, drop, length-take, length-drop}
 use lib.Seq.{take-take, drop-drop}
 use Rattle.octets.specs.Be.{be}
 use Rattle.octets.proofs.Laws.{be_drop}
-use Rattle.refusal.specs.Choice.{pick}
 use Rattle.refusal.specs.Refusal.{number_of}
 use Rattle.refusal.proofs.Choice.{passed}
 use Rattle.refusal.specs.declared.Refusal.{Refusal}
-use Rattle.refusal.specs.declared.Refusal.TheVariants.{Short, Version, «Type», Length, Stamp, Tlv, WrBad}
+use Rattle.refusal.specs.declared.Refusal.TheVariants.{Short, Version, «Type», Length, Stamp, Tlv}
 use Rattle.refusal.specs.declared.Outcome.{Outcome}
 use Rattle.refusal.specs.declared.Outcome.TheVariants.{Done, Refused}
-use Rattle.tlv.specs.Walk.{Reached, BreaksAt}
+use Rattle.tlv.specs.Walk.{BreaksAt}
 use Rattle.tlv.specs.Faults.{whole, misfit, fault_of}
 use Rattle.tlv.specs.declared.walk.Fault.{Fault}
 use Rattle.tlv.specs.declared.walk.Fault.TheVariants.{Sound, Broken, Misfit}
 use Rattle.tlv.proofs.FaultLaws.{broken_breaks}
 use Rattle.tlv.proofs.Reached.{reached_inside, whole_cut}
-use Rattle.message.specs.Fields.{type_of, version_of, length_of, fixed_size, tail_of}
-use Rattle.message.specs.Reading.{bad_stamp, fault_check, check_of}
+use Rattle.message.specs.Fields.{type_of, length_of, fixed_size, tail_of}
+use Rattle.message.specs.Reading.{fault_check, check_of}
 use Rattle.contents.specs.Tlvs.{with_length}
 use Rattle.message.specs.When.{IsStamped}
 use Rattle.message.proofs.Laws.{size_least, no_refusal}

@@ -8,7 +8,6 @@ use lib.Dec.{ltb}
 use lib.ListN.{length}
 use Rattle.refusal.specs.Choice.{pick}
 use Rattle.refusal.specs.Refusal.{code_of}
-use Rattle.refusal.specs.declared.Outcome.TheVariants.{Refused}
 use Rattle.tlv.specs.Wr.{suffix_in, link_in}
 use Rattle.tlv.specs.declared.wr.Suffix.{Suffix}
 use Rattle.tlv.specs.declared.wr.Suffix.TheVariants as suffix

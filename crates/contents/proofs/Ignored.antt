@@ -8,7 +8,6 @@ use lib.Dec.{eqb, ltb}
 use lib.ListN.{length}
 use Rattle.refusal.specs.Choice.{pick, refuse}
 use Rattle.refusal.specs.declared.Refusal.TheVariants.{«Type»}
-use Rattle.refusal.specs.declared.Outcome.TheVariants.{Refused}
 use Rattle.tlv.specs.Wr.{suffix_in, link_in}
 use Rattle.tlv.specs.Walk.{data_at}
 use Rattle.message.specs.Fields.{fixed_size}

@@ -1,8 +1,7 @@
 -- The lengths that a reader is told which hopes that nothing is wrong, and what the checks say where there are none.
-use Prim.Native.Nat.{ℕ, ◌-◌, ◌≤◌}
+use Prim.Native.Nat.{ℕ, ◌-◌}
 use mathlib.Core.Path.{◌≡◌, refl, sym, ap, ◌∙◌}
 use mathlib.Core.List.{List}
-use mathlib.Core.Bool.{Bool}
 use borrow.Author.Tests.{le-ltb, ltb-false, eq-eqb, ne_eqb, eqb-true, eqb-false, not-false}
 use lib.ListN.{take, drop}
 use Rattle.refusal.specs.Choice.{refuse}

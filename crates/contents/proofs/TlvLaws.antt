@@ -5,18 +5,17 @@ use mathlib.Core.Path.{◌≡◌, refl, sym, ap, subst, ◌∙◌}
 use mathlib.Core.List.{List, [], ◌∷◌}
 use mathlib.Core.Bool.{Bool, true, false, not}
 use native.Mathlib.Omega.{arith}
-use borrow.Author.Tests.{lt-ltb, le-ltb, ltb-false, le-leb, lt-leb, leb-true, leb-false, eqb-true, eqb-false, not-false, ne_eqb}
+use borrow.Author.Tests.{lt-ltb, le-ltb, ltb-false, le-leb, lt-leb, eqb-true, eqb-false, ne_eqb}
 use lib.Dec.{eqb, leb, ltb}
 use lib.ListN.{length}
 use Rattle.octets.specs.Be.{be}
 use Rattle.refusal.specs.Choice.{pick, refuse}
 use Rattle.refusal.specs.Refusal.{code_of}
-use Rattle.refusal.proofs.Choice.{passed, goes_on}
+use Rattle.refusal.proofs.Choice.{passed}
 use Rattle.refusal.specs.declared.Refusal.{Refusal}
-use Rattle.refusal.specs.declared.Refusal.TheVariants as refusal
 use Rattle.refusal.specs.declared.Outcome.{Outcome}
 use Rattle.refusal.specs.declared.Outcome.TheVariants.{Done, Refused}
-use Rattle.tlv.specs.Walk.{type_at, size_at, next_of, after, broken, first, Reached, start, next, TlvAt}
+use Rattle.tlv.specs.Walk.{type_at, size_at, next_of, broken, first, Reached, start, next}
 use Rattle.tlv.specs.Form.{misfit_at}
 use Rattle.tlv.specs.Faults.{sought_at}
 use Rattle.tlv.specs.declared.walk.Next.{Next}
@@ -34,7 +33,6 @@ use Rattle.message.specs.When.{IsStamped, When}
 use Rattle.contents.specs.Tlvs.{tlv_of, end_of, tlvs_from, tlvs_of, standing, next_in, Tiles, Gives, of_type}
 use Rattle.contents.specs.Answers.{walked_code}
 use Rattle.contents.specs.declared.tlvs.Tlv.{Tlv}
-use Rattle.contents.specs.declared.tlvs.Walked.{Walked}
 use Rattle.contents.specs.declared.tlvs.Walked.TheVariants as walked
 use Rattle.contents.specs.declared.parts.TlvRead.{TlvRead}
 use Rattle.contents.specs.declared.parts.TlvRead.TheVariants as lookup

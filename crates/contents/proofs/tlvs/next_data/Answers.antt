@@ -1,0 +1,31 @@
+-- `tlvs::next_data` meets its contract: a TLV that is given lies in the message.
+use Prim.Native.Nat.{◌+◌, ◌-◌, ◌≤◌}
+use mathlib.Core.Path.{◌≡◌, sym, ◌∙◌}
+use native.Mathlib.Omega.{arith}
+use lib.ListN.{length}
+use Rattle.contents.specs.Tlvs.{end_of, data_from}
+use Rattle.contents.proofs.TlvLaws.{next_inside}
+use Rattle.contents.proofs.tlvs.next_data.Goals as goal
+
+pub slice_bounds-result-end : goal.slice_bounds-result-end
+slice_bounds-result-end c =
+    let l = (let it : let a = c.args in end_of c.in-Next.x ≤ length a.s.now = let e = sym c.next_tlv.ensures ∙ c.in-Next.is in
+    let i = next_inside _ _ _ _ e in
+    omega (arith, i.inside, i.lent) in it) in omega arith
+
+pub returns-in-Next : goal.returns-in-Next
+unfolding data_from
+returns-in-Next c =
+    let v = c.in-Next.x in
+    let n : v.place + 4 + v.length - (v.place + 4) ≡ v.length = omega arith in
+    rw (← c.next_tlv.ensures, c.in-Next.is, n)
+
+pub returns-in-End : goal.returns-in-End
+unfolding data_from
+returns-in-End c =
+    rw (← c.next_tlv.ensures, c.in-End.is)
+
+pub returns-in-Refused : goal.returns-in-Refused
+unfolding data_from
+returns-in-Refused c =
+    rw (← c.next_tlv.ensures, c.in-Refused.is)
