@@ -8,7 +8,7 @@ use native.Mathlib.Omega.{arith}
 use lib.Dec.{eqb}
 use lib.ListN.{length, get_or, take, drop, set}
 use lib.Seq.{drop-set-lt, get_or-drop}
-use borrow.Author.Tests.{eqb-true, eqb-false, le-ltb}
+use borrow.Author.Tests.{le-ltb}
 use Rattle.laws.proofs.Bools.{clash}
 use Rattle.octets.proofs.Laws.{Octets}
 use Rattle.refusal.specs.Choice.{pick, refuse}

@@ -1,0 +1,19 @@
+-- `is_before` meets its contract: the keys before the port decide.
+use mathlib.Core.Path.{ap, ◌∙◌}
+use mathlib.Core.List.{List}
+use Prim.Native.Nat.{ℕ, ◌+◌, ◌-◌}
+use lib.ListN.{take, drop}
+use Rattle.slots.specs.Words.{block}
+use Rattle.slots.specs.Places.{above_in}
+use Rattle.slots.proofs.Laws.{lent}
+use Rattle.ports.proofs.Placing.{before_is}
+use Rattle.ports.proofs.places.is_before.Goals as goal
+
+pub returns : goal.returns
+returns c =
+    let g = c.args in
+    let ws = g.words.now in
+    c.comes_before.ensures
+    ∙ ap (λ (l : List ℕ). above_in l (take (g.b + 6 - g.b) (drop g.b ws))) (lent ws g.a 6)
+    ∙ ap (above_in (block ws g.a 6)) (lent ws g.b 6)
+    ∙ before_is ws g.a g.b (λ i. (c.type_inv.words i).fits) c.requires.3
