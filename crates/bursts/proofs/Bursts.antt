@@ -1,8 +1,8 @@
 -- A BURST IS ITS MESSAGES TAKEN ONE AFTER ANOTHER, so what holds of histories holds across it: it may be split anywhere, nobody is pushed
 -- out by it, a port's answers follow from the port's own messages, and messages of different ports may change places.
 use mathlib.Core.Path.{◌≡◌, refl, sym, ap, subst, ◌∙◌}
-use mathlib.Core.Bool.{Bool, true, false, ◌&&◌}
-use mathlib.Core.List.{List, [], ◌∷◌, ◌++◌, map}
+use mathlib.Core.Bool.{Bool, true, false}
+use mathlib.Core.List.{List, [], ◌∷◌, ◌++◌}
 use Prim.Native.Nat.{ℕ, zero, suc, ◌+◌, ◌-◌, ◌/◌, ◌%◌, ◌≤◌, ◌<◌}
 use native.Mathlib.Omega.{arith}
 use lib.Dec.{eqb, ltb, leb}
@@ -20,16 +20,15 @@ use Rattle.senders.specs.declared.Plan.{Plan}
 use Rattle.senders.specs.Port.{outcome_of}
 use Rattle.senders.specs.History.{Receipt}
 use Rattle.senders.proofs.Steady.{HasRecord}
-use Rattle.slots.specs.Words as slots
 use Rattle.words.specs.Words.{port_of}
 use Rattle.ports.specs.declared.intake.Settings.{Settings}
 use Rattle.ports.specs.Words.{own, port_at}
-use Rattle.ports.specs.Intake.{admitted_of, plan_by, plan_at, state_after}
+use Rattle.ports.specs.Intake.{admitted_of, plan_at, state_after}
 use Rattle.ports.specs.When.{take_number}
 use Rattle.ports.specs.History.{Call, port_of_call, after, run, own_calls, own_after, run_own, fresh, OctetCalls}
 use Rattle.ports.specs.Staying.{IsPlaceOf, StaysLive}
 use Rattle.ports.specs.Accepted.{accepted_on, SteadyOn}
-use Rattle.bursts.specs.Burst.{port_in, time_in, octets_in, call_of, calls_of, answer_to, answered, is_many, burst_check, burst_words, burst_rows, BurstWhen, many, done, Step, one, burst, step_after, steps, calls_in, own_rows, own_number, own_answered, swap_at, port_word_at, AlikeIn}
+use Rattle.bursts.specs.Burst.{port_in, time_in, octets_in, call_of, calls_of, answer_to, answered, is_many, burst_check, burst_words, burst_rows, BurstWhen, many, done, Step, one, burst, steps, calls_in, own_rows, own_number, own_answered, swap_at, port_word_at, AlikeIn}
 use Rattle.ports.proofs.Follows.{word_of, port_of_word, after_none, after_all, frame, own_after_lem, run_append, follows, same_words}
 use Rattle.ports.proofs.Ignored.{plan_same}
 use Rattle.ports.proofs.Staying.{keeps_place}

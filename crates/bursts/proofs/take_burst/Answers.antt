@@ -1,0 +1,12 @@
+-- `take_burst` meets its contract: more than 288 leave all as it was, else each message is taken.
+use borrow.Author.Tests.{lt-ltb, le-ltb}
+use Rattle.refusal.specs.Choice.{refuse}
+use Rattle.bursts.proofs.take_burst.Goals as goal
+
+pub returns-then-burst-gt-MOST-clause-answer : goal.returns-then-burst-gt-MOST-clause-answer
+unfolding refuse
+returns-then-burst-gt-MOST-clause-answer c = rw (lt-ltb _ _ c.if-burst-gt-MOST.true)
+
+pub returns-clause-answer : goal.returns-clause-answer
+unfolding refuse
+returns-clause-answer c = rw (le-ltb _ _ c.if-burst-gt-MOST.false)
