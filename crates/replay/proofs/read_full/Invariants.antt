@@ -1,6 +1,9 @@
 -- `read_full` is safe and ends, and fills no more than the space: the room that is left falls.
-use Rattle.std.proofs.Common.{◌-◌, length}
+use Rattle.std.proofs.Common.{◌-◌, ◌≤◌, length}
 use Rattle.replay.proofs.read_full.Given as goal
 
+abbrev pub invariant-loop-done : goal.invariant-loop-done
+invariant-loop-done g l = l.done ≤ length l.space
+
 abbrev pub decreases-loop-done : goal.decreases-loop-done
-decreases-loop-done g l = length l.space.old - l.done
+decreases-loop-done g l = length l.space - l.done
