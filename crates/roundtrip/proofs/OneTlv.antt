@@ -6,8 +6,7 @@ use mathlib.Core.Bool.{Bool, true, false}
 use native.Mathlib.Omega.{arith}
 use borrow.Author.Tests.{eq-eqb, le-leb}
 use lib.ListN.{length}
-use Rattle.refusal.specs.Choice.{pick, refuse}
-use Rattle.refusal.specs.declared.Outcome.TheVariants.{Done}
+use Rattle.refusal.specs.Choice.{pick}
 use Rattle.octets.specs.Be.{be}
 use Rattle.octets.proofs.Laws.{be_octets}
 use Rattle.tlv.specs.Walk.{next_of, size_at, broken, walk, first}
