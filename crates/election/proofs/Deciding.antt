@@ -3,21 +3,19 @@
 use Prim.Native.Nat.{ℕ, suc, ◌<◌}
 use mathlib.Core.Path.{◌≡◌, refl, sym, ap, ap₂, subst, ◌∙◌}
 use mathlib.Core.List.{List, [], ◌∷◌, map}
-use mathlib.Core.Bool.{Bool, true, false, ◌&&◌, ◌||◌}
+use mathlib.Core.Bool.{Bool, true, false, ◌&&◌}
 use lib.Dec.{ltb, leb}
 use lib.ListN.{get_or}
 use borrow.Author.Tests.{le-leb, eq-eqb}
 use Rattle.laws.proofs.Bools.{neither}
 use Rattle.refusal.specs.Choice.{pick, refuse}
-use Rattle.refusal.specs.declared.Refusal.{Refusal}
 use Rattle.refusal.specs.declared.Refusal.TheVariants.{Backward}
-use Rattle.refusal.specs.declared.Outcome.TheVariants.{Done, Refused}
+use Rattle.refusal.specs.declared.Outcome.TheVariants.{Done}
 use Rattle.rank.specs.declared.Grandmaster.{Grandmaster}
 use Rattle.rank.specs.declared.Candidate.{Candidate}
 use Rattle.rank.specs.declared.Ranked.{Ranked}
-use Rattle.rank.specs.declared.Ranking.{Ranking}
 use Rattle.rank.specs.Ranked.{is_port, pack, unpack, holds_of, is_ranked}
-use Rattle.rank.specs.Calls.{refused_of, done_of}
+use Rattle.rank.specs.Calls.{refused_of}
 use Rattle.rank.proofs.Best.{All, cases}
 use Rattle.rank.proofs.Merging.{AllValid, unpack_pack, ranked_valid, ranked_passes}
 use Rattle.senders.specs.declared.Asked.{Asked}

@@ -10,7 +10,6 @@ use lib.ListN.{drop}
 use lib.Seq.{drop-cons}
 use borrow.Author.Tests.{le-leb}
 use Rattle.rank.specs.declared.Candidate.{Candidate}
-use Rattle.rank.specs.Best.{best}
 use Rattle.rank.specs.Ranked.{is_port, all_valid, rank_of}
 use Rattle.rank.proofs.Best.{All}
 use Rattle.rank.proofs.Merging.{AllValid, defined, valid_sound}

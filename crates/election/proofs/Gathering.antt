@@ -1,30 +1,28 @@
 -- Putting one port's place after the other among the four best gives the places of the ranked list of all that the ports hear.
-use Prim.Native.Nat.{ℕ, zero, suc, ◌+◌, ◌-◌, ◌/◌, ◌≤◌, ◌<◌}
+use Prim.Native.Nat.{ℕ, zero, suc, ◌+◌, ◌≤◌, ◌<◌}
 use mathlib.Core.Path.{◌≡◌, refl, sym, ap, subst, ◌∙◌}
 use mathlib.Core.List.{List, [], ◌∷◌, ◌++◌, map, append-nil, append_assoc}
 use mathlib.Core.Bool.{Bool, true, false, ◌||◌}
 use native.Mathlib.Omega.{arith}
 use native.Mathlib.Numerals.{add-one}
-use lib.Dec.{eqb, ltb}
+use lib.Dec.{eqb}
 use lib.ListN.{length, get_or, take, drop, set, length-take, length-map, get_or-map, drop_of_length-le}
 use lib.Seq.{drop-cons, get_or-take, length-take-le, take-length}
 use borrow.Author.Tests.{eqb-false, ne_eqb}
-use Rattle.refusal.specs.Choice.{pick}
 use Rattle.rank.specs.declared.Candidate.{Candidate}
 use Rattle.rank.specs.declared.Ranked.{Ranked}
 use Rattle.rank.specs.Order.{earlier_of}
-use Rattle.rank.specs.Best.{best, put, sink, insert}
+use Rattle.rank.specs.Best.{best, put, sink}
 use Rattle.rank.specs.Ranked.{is_port, receiver_of, pack, holds_of}
-use Rattle.rank.proofs.Best.{All, Good, Under, Away, cases, rank_step, rank_good, rank_swap}
+use Rattle.rank.proofs.Best.{Good, Under, Away, cases, rank_step, rank_good, rank_swap}
 use Rattle.rank.proofs.Order.{ordered}
 use Rattle.rank.proofs.Merging.{R, defined}
-use Rattle.senders.specs.declared.Asked.{Asked}
 use Rattle.senders.specs.declared.Asked.TheVariants.{Absent, Found}
 use Rattle.senders.specs.Port.{tab, candidates_of, head_of, best_of}
 use Rattle.slots.proofs.Laws.{length_tab}
 use Rattle.slots.proofs.Cases.{Words64}
 use Rattle.ports.specs.Words.{port_at}
-use Rattle.ports.specs.Places.{place_on, port_by, candidate_at, found_at}
+use Rattle.ports.specs.Places.{place_on, port_by, candidate_at}
 use Rattle.ports.proofs.Placing.{best_at, place_inside, place_port}
 use Rattle.election.specs.declared.Top.{Top}
 use Rattle.election.specs.Elected.{every_port, heard_on}

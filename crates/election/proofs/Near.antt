@@ -19,7 +19,7 @@ use Rattle.rank.proofs.Best.{All, cases, rank_all}
 use Rattle.rank.proofs.Order.{ordered}
 use Rattle.rank.proofs.Merging.{AllValid, defined, unpack_pack, all_append, both, valid_sound}
 use Rattle.senders.specs.declared.Record.{Record}
-use Rattle.senders.specs.declared.Asked.TheVariants.{Refused, Absent, Found}
+use Rattle.senders.specs.declared.Asked.TheVariants.{Absent, Found}
 use Rattle.senders.specs.Record.{window_of, is_distant, is_qualified, candidate_of}
 use Rattle.senders.specs.Port.{Port, slot_of, kept, candidates_of, candidate_in, head_of, best_of}
 use Rattle.senders.proofs.Candidates.{candidates_valid}

@@ -18,7 +18,7 @@ use Rattle.decide.specs.declared.Decision.{Decision}
 use Rattle.decide.specs.declared.Decision.TheVariants.{M1, M2, M3, P1, P2, S1, S2}
 use Rattle.decide.specs.declared.Answer.{Answer}
 use Rattle.decide.specs.declared.Answer.TheVariants as answer
-use Rattle.decide.specs.Deciding.{own_beats, decision_of, decide_of}
+use Rattle.decide.specs.Deciding.{own_beats, decision_of}
 use Rattle.election.specs.declared.Leader.{Leader}
 use Rattle.election.specs.declared.Leader.TheVariants.{Refused, Ours, Master}
 use Rattle.election.specs.Elected.{every_port, any_late, heard_on}

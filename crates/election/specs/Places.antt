@@ -1,9 +1,8 @@
 -- What only the code needs: the best candidates of all ports, kept by their places in the words until the list is made.
-use Rattle.std.specs.Prelude.{ℕ, suc, ◌+◌, ◌/◌, ◌≤◌, ◌<◌, ◌≡◌, List, [], ◌∷◌, ◌++◌, map, Bool, false, ◌||◌, eqb, ltb, length, take, drop}
+use Rattle.std.specs.Prelude.{ℕ, suc, ◌+◌, ◌/◌, ◌≤◌, ◌<◌, ◌≡◌, List, [], ◌∷◌, ◌++◌, Bool, false, ◌||◌, eqb, ltb, length, take, drop}
 use Rattle.refusal.specs.Limits.{port_count}
 use Rattle.refusal.specs.Choice.{pick}
 use Rattle.rank.specs.declared.Grandmaster.{Grandmaster}
-use Rattle.rank.specs.declared.Candidate.{Candidate}
 use Rattle.rank.specs.Order.{earlier_of}
 use Rattle.senders.specs.Port.{tab}
 use Rattle.slots.specs.Words.{port_words}
