@@ -7,8 +7,6 @@ use mathlib.Core.Bool.{Bool, true, false, not, ◌&&◌}
 use native.Mathlib.Omega.{arith}
 use lib.ListN.{length, take, drop, length-take, length-drop, drop_of_length-le}
 use lib.Seq.{take_all, drop-drop}
-use types.Run.{OneOf, miss}
-use denote.Enum.Declared.{tag_of}
 use Rattle.laws.proofs.Bools.{both}
 use Rattle.refusal.specs.Choice.{refuse}
 use Rattle.refusal.specs.Limits.{is_port}
@@ -22,7 +20,6 @@ use Rattle.judging.specs.Tests.{fails_check, is_laid, is_next, is_in_order, read
 use Rattle.judging.specs.declared.Reader.{Reader}
 use Rattle.judging.specs.declared.Verdict.{Verdict}
 use Rattle.judging.specs.declared.Verdict.TheVariants as verdict
-use Rattle.judging.specs.contracts.Verdict.{the_type}
 use Rattle.ports.specs.declared.intake.Settings.{Settings}
 use Rattle.ports.specs.Intake.{plan_at, state_after}
 use Rattle.ports.specs.History.{after, run}
@@ -91,12 +88,12 @@ module _ (r : Reader) (s : List ℕ) where
   sound_laid q e = sound_by (fails_check s) (is_laid s) (is_next r.next s) (is_in_order r.last (entries_of s)) (reader_after r s) q e
 
 -- a verdict that is none of a sound block
-pub unsound : (v : Verdict) → OneOf (0 ∷ 1 ∷ 2 ∷ 3 ∷ []) (tag_of the_type v) → is_sound v ≡ false
+pub unsound : (v : Verdict) → ((q : Reader) → v ≡ verdict.Sound q → ⊥) → is_sound v ≡ false
 unsound verdict.Check k = refl
 unsound verdict.Layout k = refl
 unsound verdict.Number k = refl
 unsound verdict.Time k = refl
-unsound (verdict.Sound q) k = absurd (miss (0 ∷ 1 ∷ 2 ∷ 3 ∷ []) 4 tt k)
+unsound (verdict.Sound q) k = absurd (k q refl)
 
 -- ---- looking at all blocks
 -- what the blocks that are left give
