@@ -4,6 +4,8 @@
 //
 // The settings are built in: domain 0, clockIdentity 0, 001's example magic, intervals of a second, and our own quality that of a clock
 // without a better source.
+ghost use Rattle.std.specs.Prelude.{◌≤◌, length, IfOk};
+
 use ports::intake::Settings;
 use rank::Grandmaster;
 use refusal::Outcome;
