@@ -13,7 +13,6 @@ use borrow.Author.Tests.{eq-eqb}
 use Rattle.rank.specs.Order.{same}
 use Rattle.message.specs.declared.fields.Header.{Header}
 use Rattle.message.specs.declared.fields.Announce.{Announce}
-use Rattle.message.specs.declared.fields.DelayResp.{DelayResp}
 use Rattle.message.specs.declared.fields.Body.{Body}
 use Rattle.message.specs.declared.fields.Body.TheVariants as body
 use Rattle.message.specs.declared.fields.Message.{Message}

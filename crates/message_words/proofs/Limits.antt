@@ -2,16 +2,16 @@
 use Prim.Native.Nat.{ℕ, zero, suc, ◌+◌, ◌-◌, ◌%◌, ◌<◌, ◌≤◌}
 use mathlib.Core.Path.{◌≡◌, refl, sym, ◌∙◌, ap}
 use mathlib.Core.Bool.{Bool, true, false, ◌&&◌, ◌||◌, and_assoc, and-true}
-use mathlib.Core.List.{List, [], ◌∷◌}
+use mathlib.Core.List.{List, ◌∷◌}
 use native.Mathlib.Omega.{arith}
 use lib.Dec.{eqb, leb, ltb}
 use lib.ListN.{length, get_or, drop, drop_of_length-le}
 use lib.Seq.{drop-cons}
 use lib.IntN.{negsuc}
-use mir.Syntax.{w8, w16, w64}
+use mir.Syntax.{w8, w64}
 use mir.Val.{of_z, to_z}
 use mir.ValLaws.{of_z-to_z}
-use borrow.Author.Tests.{eq-eqb, ne_eqb, lt-ltb, le-ltb, le-leb, lt-leb, ltb-true, ltb-false, leb-true, leb-false}
+use borrow.Author.Tests.{eq-eqb, ne_eqb, lt-leb, ltb-true, ltb-false, leb-true, leb-false}
 use Rattle.words.proofs.Spread.{spread}
 use Rattle.message_words.specs.Words.{body_words, message_words, header_of, announce_of, body_of, words_for, is_whole}
 use Rattle.message_words.specs.Fits.{signed8_fits, signed16_fits, signed64_fits, header_fits, stamp_fits, announce_fits}

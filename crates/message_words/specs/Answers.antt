@@ -1,5 +1,5 @@
 -- What reading answers: the number returned, with its place, and the words at exit, which a refusal leaves as they were.
-use Rattle.std.specs.Prelude.{ℕ, ◌+◌, List, [], ◌∷◌}
+use Rattle.std.specs.Prelude.{ℕ, List, [], ◌∷◌}
 use Rattle.refusal.specs.declared.Outcome.{Outcome}
 use Rattle.refusal.specs.declared.Outcome.TheVariants as outcome
 use Rattle.octets.specs.Be.{be}

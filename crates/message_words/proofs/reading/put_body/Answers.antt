@@ -1,0 +1,48 @@
+-- `reading::put_body` meets its contract: each arm knows the type, and so how many octets are there.
+use mathlib.Core.Path.{◌∙◌}
+use borrow.Author.Tests.{ne_eqb}
+use Rattle.message.specs.Fields.{fixed_size, body_of}
+use Rattle.message_words.specs.Words.{body_words}
+use Rattle.message_words.proofs.reading.put_body.Goals as goal
+
+pub put_resp-requires-clause-in_bounds : goal.put_resp-requires-clause-in_bounds
+unfolding fixed_size
+put_resp-requires-clause-in_bounds c =
+    rw c.in-9.is at c.requires.in_bounds.1
+
+pub put_announce-requires-clause-in_bounds : goal.put_announce-requires-clause-in_bounds
+unfolding fixed_size
+put_announce-requires-clause-in_bounds c =
+    rw c.in-11.is at c.requires.in_bounds.1
+
+pub returns-in-0 : goal.returns-in-0
+unfolding body_of body_words
+returns-in-0 c =
+    c.put_stamp.ensures ∙ rw c.in-0.is
+
+pub returns-in-1 : goal.returns-in-1
+unfolding body_of body_words
+returns-in-1 c =
+    c.put_stamp-in-1.ensures ∙ rw c.in-1.is
+
+pub returns-in-8 : goal.returns-in-8
+unfolding body_of body_words
+returns-in-8 c =
+    c.put_stamp-in-8.ensures ∙ rw c.in-8.is
+
+pub returns-in-9 : goal.returns-in-9
+unfolding body_of body_words
+returns-in-9 c =
+    c.put_resp.ensures ∙ rw c.in-9.is
+
+pub returns-in-11 : goal.returns-in-11
+unfolding body_of body_words
+returns-in-11 c =
+    c.put_announce.ensures ∙ rw c.in-11.is
+
+pub returns-in_default : goal.returns-in_default
+unfolding body_of body_words
+returns-in_default c =
+    let r = c.in_default.in_default-own.rest in
+    c.put_target.ensures
+    ∙ rw (ne_eqb _ _ r.0.0.0.0.1, ne_eqb _ _ r.0.0.0.1, ne_eqb _ _ r.0.0.1, ne_eqb _ _ r.0.1, ne_eqb _ _ r.1)
