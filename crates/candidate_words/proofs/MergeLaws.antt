@@ -1,8 +1,8 @@
 -- Two lists merged where they lie: a list is ranked where ranking it moves none of its candidates, and one filled into the other is their merging.
-use Prim.Native.Nat.{ℕ, zero, suc, ◌+◌, ◌-◌, ◌*◌, ◌≤◌, ◌<◌}
+use Prim.Native.Nat.{ℕ, zero, suc, ◌+◌, ◌*◌, ◌≤◌, ◌<◌}
 use mathlib.Core.Path.{◌≡◌, refl, sym, ap, ap₂, ◌∙◌, subst}
 use mathlib.Core.Bool.{Bool, true, false, ◌&&◌, ◌||◌}
-use mathlib.Core.List.{List, [], ◌∷◌, ◌++◌, map, append-nil}
+use mathlib.Core.List.{List, [], ◌++◌, append-nil}
 use native.Mathlib.Omega.{arith}
 use borrow.Author.Tests.{lt-leb, le-leb, leb-false, ltb-false, eqb-true}
 use lib.Dec.{eqb, leb, ltb}
@@ -10,15 +10,14 @@ use lib.ListN.{length, take, drop, get_or, length-map}
 use lib.Seq.{slice, slice_empty, length-slice, ext_get_or, get_or-drop, get_or-take, take-append-le, take-append-add}
 use Rattle.laws.proofs.Bools.{clash}
 use Rattle.refusal.specs.Choice.{refuse}
-use Rattle.refusal.specs.declared.Outcome.TheVariants.{Done}
 use Rattle.rank.specs.declared.Candidate.{Candidate}
 use Rattle.rank.specs.declared.Ranking.{Ranking}
 use Rattle.rank.specs.Order.{earlier_of}
-use Rattle.rank.specs.Ranked.{receiver_of, is_port, all_valid, rank_of, blank_of, pack, unpack, insert_all, in_rank, is_ranked}
-use Rattle.rank.specs.Calls.{done_of, merge_of}
+use Rattle.rank.specs.Ranked.{receiver_of, all_valid, rank_of, blank_of, pack, unpack, insert_all, in_rank, is_ranked}
+use Rattle.rank.specs.Calls.{done_of}
 use Rattle.rank.proofs.Best.{cases, rank_swap}
 use Rattle.rank.proofs.Order.{ordered}
-use Rattle.rank.proofs.Merging.{R, AllValid, both, defined, valid_sound, unpack_pack, ranked_passes, ranked_valid, all_append}
+use Rattle.rank.proofs.Merging.{R, AllValid, both, defined, valid_sound, unpack_pack, ranked_passes, all_append}
 use Rattle.candidate_words.specs.declared.places.Places.{Places}
 use Rattle.candidate_words.specs.Candidates.{ranked_of, ranked_words}
 use Rattle.candidate_words.specs.Fits.{candidate_fits, slot_fits, list_fits}

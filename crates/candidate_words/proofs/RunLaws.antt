@@ -16,7 +16,6 @@ use Rattle.refusal.specs.declared.Outcome.TheVariants.{Done, Refused}
 use Rattle.words.specs.Words.{port_of}
 use Rattle.rank.specs.declared.Candidate.{Candidate}
 use Rattle.rank.specs.Ranked.{is_port, all_valid}
-use Rattle.rank.specs.Calls.{ranking_of}
 use Rattle.rank.proofs.Best.{cases}
 use Rattle.candidate_words.specs.Fits.{candidate_fits, run_fits, outcome_fitted}
 use Rattle.candidate_words.specs.Runs.{run_of}

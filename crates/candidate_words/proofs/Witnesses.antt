@@ -13,7 +13,7 @@ use Rattle.decide.specs.declared.Erbest.TheVariants.{Absent, Present}
 use Rattle.decide.specs.declared.Comparison.TheVariants.{ABetter, BBetter, ABetterByTopology, BBetterByTopology, Error1, Error2}
 use Rattle.senders.specs.declared.Record.{Record}
 use Rattle.ports.specs.declared.asking.Status.TheVariants.{Known}
-use Rattle.candidate_words.specs.Candidates.{grandmaster_at, candidate_at, set_of, best_of, candidate_words, found_words}
+use Rattle.candidate_words.specs.Candidates.{grandmaster_at, candidate_at, set_of, best_of, candidate_words}
 use Rattle.candidate_words.specs.Fits.{candidate_fits, set_fits}
 use Rattle.candidate_words.specs.Answers.{status_words, record_words, comparison_number}
 
