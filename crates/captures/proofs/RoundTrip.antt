@@ -1,20 +1,19 @@
 -- THERE AND BACK (02, (vi): "Importing an exported trace under its own port gives back its records."): of every trace that export accepts, the capture that it
 -- writes is read again, nothing in it is refused but for too little room, and the records are those of the trace.
-use Prim.Native.Nat.{ℕ, zero, suc, ◌+◌, ◌*◌, ◌/◌, ◌%◌, ◌≤◌, ◌<◌}
-use mathlib.Core.Path.{◌≡◌, refl, sym, ap, subst, ◌∙◌}
-use mathlib.Core.Logic.{◌⊎◌, inl, inr}
+use Prim.Native.Nat.{ℕ, zero, suc, ◌+◌, ◌*◌, ◌/◌, ◌%◌, ◌<◌}
+use mathlib.Core.Path.{◌≡◌, refl, sym, ap, ◌∙◌}
+use mathlib.Core.Logic.{inr}
 use mathlib.Core.List.{List, [], ◌∷◌, ◌++◌, map}
 use mathlib.Core.Bool.{Bool, true, false, not, ◌&&◌}
 use native.Mathlib.Omega.{arith}
-use lib.Dec.{eqb, leb, ltb}
-use lib.ListN.{length, get_or, take, drop, replicate}
+use lib.Dec.{eqb, ltb}
+use lib.ListN.{length, take, drop, replicate}
 use lib.Seq.{take_at}
-use borrow.Author.Tests.{leb-true, le-leb, ltb-true, eqb-true}
+use borrow.Author.Tests.{le-leb, ltb-true, eqb-true}
 use Rattle.laws.proofs.Bools.{both}
 use Rattle.refusal.specs.Choice.{pick, refuse}
 use Rattle.refusal.specs.Limits.{is_port, second_nanos}
 use Rattle.refusal.specs.declared.Refusal.TheVariants.{Block, Export, Room}
-use Rattle.refusal.specs.declared.Outcome.{Outcome}
 use Rattle.refusal.specs.declared.Outcome.TheVariants as outcome
 use Rattle.octets.specs.Be.{be}
 use Rattle.octets.proofs.Laws.{Octets, octets_take, octets_drop, be_bound}
@@ -29,14 +28,14 @@ use Rattle.recording.proofs.Refusing.{done}
 use Rattle.traces.specs.Taped.{fresh_tape, IsShort}
 use Rattle.traces.proofs.Whole.{recorded_accepted, recorded_entries}
 use Rattle.playback.specs.Playback.{blocks_in, entries_of_all, is_trace}
-use Rattle.pcap.specs.File.{Frame, is_capture, frames_of}
-use Rattle.pcap.specs.Written.{Packet, Fits, AllFit, frame_in, framed, our_form, our_fields}
+use Rattle.pcap.specs.File.{is_capture}
+use Rattle.pcap.specs.Written.{Fits, AllFit, frame_in, framed, our_form, our_fields}
 use Rattle.pcap.proofs.ReadBack.{file_accepted, file_read}
 use Rattle.exporting.specs.Exporting.{packet_by, capture_of, port_of, is_writable, are_writable, records_of, can_write, export_of, out_after_export}
 use Rattle.exporting.proofs.Few.{AllOctets, blocks_octets}
 use Rattle.captures.proofs.Again.{taken_again}
 use Rattle.importing.proofs.Tapes.{first_done, all_kept}
-use Rattle.importing.specs.Importing.{is_ptp, entry_by, taken_of, or_else, records_check, fresh_words, trace_by, records_in, behind, import_of}
+use Rattle.importing.specs.Importing.{is_ptp, entry_by, taken_of, records_check, fresh_words, trace_by, records_in, import_of}
 
 -- ---- RECORDS THAT CAN BE WRITTEN
 -- what is recorded is short
