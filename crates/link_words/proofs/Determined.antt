@@ -1,5 +1,5 @@
 -- The contract of each public function fixes its answer and the words it is lent: any two results that it allows are equal.
-use mathlib.Core.Path.{◌∙◌, refl, sym}
+use mathlib.Core.Path.{◌∙◌, sym}
 use Rattle.laws.proofs.Fixes.{Fixes}
 use Rattle.link_words.specs.contracts as contracts
 use Rattle.link_words.proofs as its

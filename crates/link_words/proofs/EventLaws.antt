@@ -19,7 +19,7 @@ use Rattle.link.specs.declared.Sends.TheVariants.{Nothing, Two}
 use Rattle.link.specs.declared.Stepped.{Stepped}
 use Rattle.link.specs.States.{state_number}
 use Rattle.link.specs.Machine.{asked, calibrate_of, calibrated_of, message_of, mode_on_of, Skips, taken, stepped}
-use Rattle.links.specs.Words.{bit, role_number, word_of, settings_of}
+use Rattle.links.specs.Words.{bit, role_number, settings_of}
 use Rattle.links.specs.Brief.{sent_first, sent_both, brief_of}
 use Rattle.links.proofs.WordLaws.{state_in, role_in, mode_in, count_in}
 use Rattle.links.proofs.BriefLaws.{without_latencies}
@@ -87,6 +87,6 @@ module _ (w tx rx : ℕ) where
       ∙ move_whole (state_number x.link.state) (role_number x.link.role) (bit x.link.mode) x.link.retries x.report l m
 
   -- by what the step in numbers is told of the settings
-  pub step_words : (l : Link) (e : Event) → brief_words w tx rx (brief_of (stepped (settings_of w 0 0) l e)) ≡ step_words (stepped s l e)
+  pub step_words_lem : (l : Link) (e : Event) → brief_words w tx rx (brief_of (stepped (settings_of w 0 0) l e)) ≡ step_words (stepped s l e)
   unfolding stepped
-  step_words l e = rw (← without_latencies w tx rx l e) (taken_words_lem l (asked s.config l e))
+  step_words_lem l e = rw (← without_latencies w tx rx l e) (taken_words_lem l (asked s.config l e))
