@@ -9,7 +9,7 @@ use Rattle.election.proofs.position.Goals as goal
 pub returns-then-is_before : goal.returns-then-is_before
 returns-then-is_before c =
     let g = c.args in
-    let z = (let it : length c.args.top.places ≡ 4 = c.well_formed.1.0.1.1.1.0.1.0.1 in it) in
+    let size : length c.args.top.places ≡ 4 = c.well_formed.1.0.1.1.1.0.1.0.1 in
     let x = g.top in
     let ws = g.words.now in
     let i = c.loop-i.i in
@@ -20,7 +20,7 @@ returns-then-is_before c =
 pub loop-i-preserved : goal.loop-i-preserved
 loop-i-preserved c =
     let g = c.args in
-    let z = (let it : length c.args.top.places ≡ 4 = c.well_formed.1.0.1.1.1.0.1.0.1 in it) in
+    let size : length c.args.top.places ≡ 4 = c.well_formed.1.0.1.1.1.0.1.0.1 in
     let x = g.top in
     let ws = g.words.now in
     let i = c.loop-i.i in

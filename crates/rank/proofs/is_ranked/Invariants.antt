@@ -1,10 +1,5 @@
 -- `is_ranked` meets its contract: what is left to look at is in rank exactly when the list is a ranked list, and what is left
 -- of the later slots holds a slot's port exactly when all of them do.
--- the invariant in a turn: this slot, and the others
--- the same where the port is the clock's
--- and no later slot's
--- the later slots, from one that is looked at
--- the next slot's candidate, if there is one, stands after this one
 use Prim.Native.Nat.{◌-◌, ◌+◌}
 use mathlib.Core.Path.{◌≡◌}
 use lib.ListN.{drop}

@@ -1,7 +1,5 @@
 -- `sink` meets its contract: the slots gone through, then what comes of sinking the one that goes on into the others,
 -- is what comes of sinking the candidate into the list.
--- which stays and which goes on, by what `earlier` told; `simp` of the told fact inside `turned` is far dearer
--- after the swap: the earlier of the two stays, the other goes on
 use Prim.Native.Nat.{◌-◌}
 use lib.ListN.{take}
 use Rattle.rank.specs.Order.{earlier_of}

@@ -1,7 +1,8 @@
 -- `best_place` meets its contract: from the slot reached to the last, the best is the one whose place is held.
--- one slot more: the place that is held after it
 use mathlib.Core.Path.{◌≡◌, refl, ap, sym, ◌∙◌}
-use Prim.Native.Nat.{ℕ, suc, ◌+◌, ◌-◌, ◌≤◌}
+use Prim.Native.Nat.{ℕ, suc, ◌+◌, ◌-◌, ◌≤◌, ◌<◌}
+use mathlib.Core.Bool.{Bool}
+use mathlib.Core.List.{List}
 use native.Mathlib.Omega.{arith}
 use Rattle.refusal.specs.Choice.{pick}
 use borrow.Author.Rules.{rules}
@@ -10,6 +11,19 @@ use Rattle.slots.specs.Places.{place_among}
 use Rattle.slots.proofs.Begins.{among_bound}
 use Rattle.slots.proofs.Window.{place_since}
 use Rattle.slots.proofs.best_place.Goals as goal
+
+-- one slot more: the place that is held after it
+turned : (ws : List ℕ) (from i b : ℕ) (o : Bool) → 0 < i → i ≤ 16 → o ≡ outdoes_in ws (begin_of (i - 1)) b 0 from → b ≡ place_among ws 0 from (16 - i)
+    → pick o (begin_of (i - 1)) b ≡ place_among ws 0 from (16 - (i - 1))
+unfolding place_among
+turned ws from i b o low high told held =
+    let n = 16 - i in
+    let e : i - 1 ≡ 15 - n = omega arith in
+    let f : 16 - (i - 1) ≡ suc n = omega arith in
+    ap (λ (q : Bool). pick q (begin_of (i - 1)) b) told
+    ∙ ap (λ (b : ℕ). pick (outdoes_in ws (begin_of (i - 1)) b 0 from) (begin_of (i - 1)) b) held
+    ∙ ap (λ (k : ℕ). pick (outdoes_in ws (begin_of k) (place_among ws 0 from n) 0 from) (begin_of k) (place_among ws 0 from n)) e
+    ∙ sym (ap (place_among ws 0 from) f)
 
 pub loop-i-init : goal.loop-i-init
 unfolding place_among
@@ -22,35 +36,15 @@ outdoes-requires c =
     search rules
 
 pub loop-i-preserved-then-outdoes : goal.loop-i-preserved-then-outdoes
-unfolding place_among
 loop-i-preserved-then-outdoes c = (
-  search rules,
-  rw c.if-outdoes.true at ((let it : pick c.outdoes.result (begin_of (c.loop-i.i - 1)) c.loop-i.b ≡ place_among c.args.ws.now 0 c.since-begin.result (16 - (c.loop-i.i - 1)) = let ws = c.args.ws.now in
-      let from = c.since-begin.result in
-      let i = c.loop-i.i - 1 in
-      let n = 16 - c.loop-i.i in
-      let e : i ≡ 15 - n = omega arith in
-      let f : 16 - i ≡ suc n = omega arith in
-      ap (λ (o : _). pick o (begin_of i) c.loop-i.b) c.outdoes.ensures
-      ∙ ap (λ (b : ℕ). pick (outdoes_in ws (begin_of i) b 0 from) (begin_of i) b) c.loop-i.invariant.1
-      ∙ ap (λ (k : ℕ). pick (outdoes_in ws (begin_of k) (place_among ws 0 from n) 0 from) (begin_of k) (place_among ws 0 from n)) e
-      ∙ sym (ap (place_among ws 0 from) f) in it)),
+  omega arith,
+  rw c.if-outdoes.true at (turned c.args.ws.now c.since-begin.result c.loop-i.i c.loop-i.b _ c.loop-i-test.true c.loop-i.invariant.0 c.outdoes.ensures c.loop-i.invariant.1),
 )
 
 pub loop-i-preserved : goal.loop-i-preserved
-unfolding place_among
 loop-i-preserved c = (
-  search rules,
-  rw c.if-outdoes.false at ((let it : pick c.outdoes.result (begin_of (c.loop-i.i - 1)) c.loop-i.b ≡ place_among c.args.ws.now 0 c.since-begin.result (16 - (c.loop-i.i - 1)) = let ws = c.args.ws.now in
-      let from = c.since-begin.result in
-      let i = c.loop-i.i - 1 in
-      let n = 16 - c.loop-i.i in
-      let e : i ≡ 15 - n = omega arith in
-      let f : 16 - i ≡ suc n = omega arith in
-      ap (λ (o : _). pick o (begin_of i) c.loop-i.b) c.outdoes.ensures
-      ∙ ap (λ (b : ℕ). pick (outdoes_in ws (begin_of i) b 0 from) (begin_of i) b) c.loop-i.invariant.1
-      ∙ ap (λ (k : ℕ). pick (outdoes_in ws (begin_of k) (place_among ws 0 from n) 0 from) (begin_of k) (place_among ws 0 from n)) e
-      ∙ sym (ap (place_among ws 0 from) f) in it)),
+  omega arith,
+  rw c.if-outdoes.false at (turned c.args.ws.now c.since-begin.result c.loop-i.i c.loop-i.b _ c.loop-i-test.true c.loop-i.invariant.0 c.outdoes.ensures c.loop-i.invariant.1),
 )
 
 pub returns : goal.returns

@@ -1,5 +1,4 @@
 -- `find_of` meets its contract: no slot passed was the sender's.
--- the slot that was looked at
 use mathlib.Core.Path.{◌≡◌, ap, ◌∙◌, sym}
 use native.Mathlib.Omega.{arith}
 use Rattle.slots.specs.Words.{slot_at, sought_in}
@@ -10,8 +9,10 @@ use Rattle.slots.proofs.find_of.Goals as goal
 pub returns-then-is_sought : goal.returns-then-is_sought
 returns-then-is_sought c =
     let g = c.args in
-    sym (tab_hit (sought_in (Of g.sender)) 16 (slot_at g.ws.now) c.loop-i.i c.loop-i.invariant.1 c.loop-i-test.true ((let it : let g = c.args in sought_in (Of g.sender) (slot_at g.ws.now c.loop-i.i) ≡ c.is_sought.result = let g = c.args in
-    ap (sought_in (Of g.sender)) (sym c.load.ensures) ∙ sym c.is_sought.ensures in it) ∙ c.if-is_sought.true))
+    let i = c.loop-i.i in
+    let looked_at : sought_in (Of g.sender) (slot_at g.ws.now i) ≡ c.is_sought.result =
+    ap (sought_in (Of g.sender)) (sym c.load.ensures) ∙ sym c.is_sought.ensures in
+    sym (tab_hit (sought_in (Of g.sender)) 16 (slot_at g.ws.now) i c.loop-i.invariant.1 c.loop-i-test.true (looked_at ∙ c.if-is_sought.true))
 
 pub returns : goal.returns
 returns c =

@@ -1,7 +1,8 @@
 -- `outdoes` meets its contract: the tests in their order are those of the definition.
--- whether the record is qualified
 use mathlib.Core.Path.{◌≡◌, ap, ◌∙◌, sym}
+use mathlib.Core.Bool.{Bool}
 use mathlib.Core.List.{List}
+use Rattle.senders.specs.declared.Record.{Record}
 use Prim.Native.Nat.{ℕ, ◌+◌, ◌-◌}
 use lib.ListN.{take, drop}
 use borrow.Author.Tests.{eq-eqb, ne_eqb}
@@ -10,32 +11,32 @@ use Rattle.slots.specs.Words.{block, of_six, record_of, before_in, ahead_in}
 use Rattle.slots.proofs.Laws.{lent}
 use Rattle.slots.proofs.outdoes.Goals as goal
 
-pub returns-then-not-is_qualified : goal.returns-then-not-is_qualified
+-- whether the record is qualified
+qualified : (w t : ℕ) (ws : List ℕ) (a : ℕ) (r : Record) (b : Bool) → b ≡ is_qualified w t r → r ≡ of_six (take (a + 6 - a) (drop a ws))
+    → is_qualified w t (record_of (block ws a 6)) ≡ b
 unfolding record_of
+qualified w t ws a r b e f = sym (e ∙ ap (is_qualified w t) (f ∙ ap of_six (lent ws a 6)))
+
+pub returns-then-not-is_qualified : goal.returns-then-not-is_qualified
 returns-then-not-is_qualified c =
-    rw (sym ((let it : let g = c.args in c.is_qualified.result ≡ is_qualified g.w g.t (record_of (block g.ws.now g.a 6)) = let g = c.args in
-    c.is_qualified.ensures
-    ∙ ap (is_qualified g.w g.t) (c.read.ensures ∙ ap of_six (lent g.ws.now g.a 6)) in it)) ∙ c.if-not-is_qualified.true)
+    let g = c.args in
+    rw (qualified g.w g.t g.ws.now g.a _ _ c.is_qualified.ensures c.read.ensures ∙ c.if-not-is_qualified.true)
 
 pub returns-then-b-eq0 : goal.returns-then-b-eq0
-unfolding record_of
 returns-then-b-eq0 c =
+    let g = c.args in
     rw (
-      sym ((let it : let g = c.args in c.is_qualified.result ≡ is_qualified g.w g.t (record_of (block g.ws.now g.a 6)) = let g = c.args in
-          c.is_qualified.ensures
-          ∙ ap (is_qualified g.w g.t) (c.read.ensures ∙ ap of_six (lent g.ws.now g.a 6)) in it)) ∙ c.if-not-is_qualified.false,
+      qualified g.w g.t g.ws.now g.a _ _ c.is_qualified.ensures c.read.ensures ∙ c.if-not-is_qualified.false,
       eq-eqb _ _ c.if-b-eq0.true,
     )
 
 pub returns : goal.returns
-unfolding ahead_in record_of
+unfolding ahead_in
 returns c =
     let g = c.args in
     let ws = g.ws.now in
     rw (
-      sym ((let it : let g = c.args in c.is_qualified.result ≡ is_qualified g.w g.t (record_of (block g.ws.now g.a 6)) = let g = c.args in
-          c.is_qualified.ensures
-          ∙ ap (is_qualified g.w g.t) (c.read.ensures ∙ ap of_six (lent g.ws.now g.a 6)) in it)) ∙ c.if-not-is_qualified.false,
+      qualified g.w g.t ws g.a _ _ c.is_qualified.ensures c.read.ensures ∙ c.if-not-is_qualified.false,
       ne_eqb _ _ c.if-b-eq0.false,
     )
     (c.stands_before.ensures

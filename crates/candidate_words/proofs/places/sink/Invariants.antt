@@ -1,8 +1,4 @@
 -- `sink` meets its contract: what is done to the places is what `rank` does to the slots of the list that they stand for.
--- the place that a turn looks at is in the run
--- after the exchange: the earlier of the two stays, the other goes on
--- and both are places of the run
--- the port at a place, by its word
 use Prim.Native.Nat.{◌-◌}
 use mathlib.Core.List.{map}
 use lib.ListN.{take}
