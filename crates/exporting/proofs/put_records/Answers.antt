@@ -1,8 +1,5 @@
 -- `put_records` meets its contract: the loop's invariant says that the records that are left are laid out right, so that each is there to be read, and
 -- that their packets, put behind those that were put, give what all give.
--- the record at `at` is whole
--- it ends inside the block
--- there is room for its packet
 use Prim.Native.Nat.{◌+◌, ◌≤◌, ◌-◌}
 use mathlib.Core.Path.{◌≡◌, refl, ◌∙◌}
 use native.Mathlib.Omega.{arith}
@@ -39,49 +36,39 @@ end_at-end-requires c =
 
 pub slice_bounds-put_packet-end : goal.slice_bounds-put_packet-end
 slice_bounds-put_packet-end c =
-    let k = laid c.args.s.now c.requires.0 in
-    omega (
-      arith,
-      (let it : c.end_at-end.result ≤ 512 = let w = laid_on c.args.s.now c.loop-i.at c.count-n.result c.loop-i.i c.loop-i-test.true c.loop-i.invariant.1 in
-          omega (arith, c.end_at-end.ensures, w.0) in it),
-      k.whole,
-    )
+    let s = c.args.s.now in
+    let k = laid s c.requires.0 in
+    let w = laid_on s c.loop-i.at c.count-n.result c.loop-i.i c.loop-i-test.true c.loop-i.invariant.1 in
+    omega (arith, c.end_at-end.ensures, w.0, k.whole)
 
 pub put_packet-requires : goal.put_packet-requires
 put_packet-requires c =
     let s = c.args.s.now in
     let k = laid s c.requires.0 in
-    omega (
-      arith,
-      (let it : c.loop-i.to + (c.end_at-end.result - c.loop-i.at + 19) ≤ length c.loop-i.out = let s = c.args.s.now in
-          let k = laid s c.requires.0 in
-          let left = packets_left s c.loop-i.at c.count-n.result c.loop-i.i c.loop-i-test.true k.whole c.end_at-end.result c.end_at-end.ensures ((let it : c.end_at-end.result ≤ 512 = let w = laid_on c.args.s.now c.loop-i.at c.count-n.result c.loop-i.i c.loop-i-test.true c.loop-i.invariant.1 in
-          omega (arith, c.end_at-end.ensures, w.0) in it)) in
-          omega (arith, left, c.loop-i.invariant.2, c.loop-i.invariant.3, c.requires.1) in it),
-      length-take (c.end_at-end.result - (c.loop-i.at + 11)) (drop (c.loop-i.at + 11) s),
-    )
+    let w = laid_on s c.loop-i.at c.count-n.result c.loop-i.i c.loop-i-test.true c.loop-i.invariant.1 in
+    -- it ends inside the block
+    let inside : c.end_at-end.result ≤ 512 = omega (arith, c.end_at-end.ensures, w.0) in
+    let left = packets_left s c.loop-i.at c.count-n.result c.loop-i.i c.loop-i-test.true k.whole c.end_at-end.result c.end_at-end.ensures inside in
+    -- there is room for its packet
+    let room : c.loop-i.to + (c.end_at-end.result - c.loop-i.at + 19) ≤ length c.loop-i.out = omega (arith, left, c.loop-i.invariant.2, c.loop-i.invariant.3, c.requires.1) in
+    omega (arith, room, length-take (c.end_at-end.result - (c.loop-i.at + 11)) (drop (c.loop-i.at + 11) s))
 
 pub loop-i-preserved : goal.loop-i-preserved
 loop-i-preserved c =
     let s = c.args.s.now in
     let k = laid s c.requires.0 in
     let w = laid_on s c.loop-i.at c.count-n.result c.loop-i.i c.loop-i-test.true c.loop-i.invariant.1 in
-    let left = packets_left s c.loop-i.at c.count-n.result c.loop-i.i c.loop-i-test.true k.whole c.end_at-end.result c.end_at-end.ensures ((let it : c.end_at-end.result ≤ 512 = let w = laid_on c.args.s.now c.loop-i.at c.count-n.result c.loop-i.i c.loop-i-test.true c.loop-i.invariant.1 in
-    omega (arith, c.end_at-end.ensures, w.0) in it)) in (
+    -- it ends inside the block
+    let inside : c.end_at-end.result ≤ 512 = omega (arith, c.end_at-end.ensures, w.0) in
+    let left = packets_left s c.loop-i.at c.count-n.result c.loop-i.i c.loop-i-test.true k.whole c.end_at-end.result c.end_at-end.ensures inside in
+    -- there is room for its packet
+    let room : c.loop-i.to + (c.end_at-end.result - c.loop-i.at + 19) ≤ length c.loop-i.out = omega (arith, left, c.loop-i.invariant.2, c.loop-i.invariant.3, c.requires.1) in (
       omega arith,
       rw c.end_at-end.ensures w.2,
       omega (arith, left, c.loop-i.invariant.2),
       omega (arith, c.loop-i.invariant.3),
-      packet_put s c.loop-i.at c.count-n.result c.loop-i.i c.loop-i-test.true k.whole c.end_at-end.result c.end_at-end.ensures ((let it : c.end_at-end.result ≤ 512 = let w = laid_on c.args.s.now c.loop-i.at c.count-n.result c.loop-i.i c.loop-i-test.true c.loop-i.invariant.1 in
-          omega (arith, c.end_at-end.ensures, w.0) in it))
-          c.loop-i.out c.put_packet.new.out c.loop-i.to c.time_at-t.result (omega (
-            arith,
-            (let it : c.loop-i.to + (c.end_at-end.result - c.loop-i.at + 19) ≤ length c.loop-i.out = let s = c.args.s.now in
-                let k = laid s c.requires.0 in
-                let left = packets_left s c.loop-i.at c.count-n.result c.loop-i.i c.loop-i-test.true k.whole c.end_at-end.result c.end_at-end.ensures ((let it : c.end_at-end.result ≤ 512 = let w = laid_on c.args.s.now c.loop-i.at c.count-n.result c.loop-i.i c.loop-i-test.true c.loop-i.invariant.1 in
-                omega (arith, c.end_at-end.ensures, w.0) in it)) in
-                omega (arith, left, c.loop-i.invariant.2, c.loop-i.invariant.3, c.requires.1) in it),
-          )) c.time_at-t.ensures c.put_packet.ensures
+      packet_put s c.loop-i.at c.count-n.result c.loop-i.i c.loop-i-test.true k.whole c.end_at-end.result c.end_at-end.ensures inside
+          c.loop-i.out c.put_packet.new.out c.loop-i.to c.time_at-t.result (omega (arith, room)) c.time_at-t.ensures c.put_packet.ensures
           ∙ c.loop-i.invariant.4,
     )
 

@@ -1,8 +1,5 @@
 -- `put_records` meets its contract: the loop's invariant says that the records that are left are laid out right, so that each is there to be read, and
 -- that their packets, put behind those that were put, give what all give.
--- the record at `at` is whole
--- it ends inside the block
--- there is room for its packet
 use Prim.Native.Nat.{◌+◌, ◌≤◌, ◌-◌}
 use mathlib.Core.Path.{◌≡◌}
 use mathlib.Core.Bool.{true}

@@ -1,7 +1,5 @@
 -- `weigh` meets its contract: the loop's invariant says that the records that are left are laid out right, so that each is there to be read, and that
 -- they weigh, behind those that were weighed, what all weigh. A packet weighs at most three times its record.
--- the record at `at` is whole
--- it ends inside the block
 use Prim.Native.Nat.{◌*◌, ◌≤◌, ◌-◌}
 use mathlib.Core.Path.{◌≡◌}
 use mathlib.Core.Bool.{true}

@@ -1,5 +1,4 @@
 -- `is_laid` meets its contract, test by test.
--- what is left behind the length and the count
 use mathlib.Core.Path.{◌≡◌}
 use mathlib.Core.Bool.{◌&&◌}
 use lib.Dec.{eqb}
@@ -22,9 +21,17 @@ returns-then-n-eq0 c =
 pub returns-then-first_time-time_at : goal.returns-then-first_time-time_at
 unfolding is_laid
 returns-then-first_time-time_at c =
-    rw ((let it : let s = c.args.s.now in is_laid s ≡ (eqb c.first_time.result c.time_at.result && laid_from c.count-n.result s records_at) = rw (eq-eqb _ _ c.if-s-ne-OCTETS.false, ← c.count-n.ensures, le-leb 1 c.count-n.result (omega arith), ← c.first_time.ensures, ← c.time_at.ensures) in it), ne_eqb _ _ c.if-first_time-time_at.true)
+    let s = c.args.s.now in
+    -- what is left behind the length and the count
+    let left : is_laid s ≡ (eqb c.first_time.result c.time_at.result && laid_from c.count-n.result s records_at) =
+    rw (eq-eqb _ _ c.if-s-ne-OCTETS.false, ← c.count-n.ensures, le-leb 1 c.count-n.result (omega arith), ← c.first_time.ensures, ← c.time_at.ensures) in
+    rw (left, ne_eqb _ _ c.if-first_time-time_at.true)
 
 pub returns : goal.returns
 unfolding is_laid
 returns c =
-    rw ((let it : let s = c.args.s.now in is_laid s ≡ (eqb c.first_time.result c.time_at.result && laid_from c.count-n.result s records_at) = rw (eq-eqb _ _ c.if-s-ne-OCTETS.false, ← c.count-n.ensures, le-leb 1 c.count-n.result (omega arith), ← c.first_time.ensures, ← c.time_at.ensures) in it), eq-eqb _ _ c.if-first_time-time_at.false) c.are_laid.ensures
+    let s = c.args.s.now in
+    -- what is left behind the length and the count
+    let left : is_laid s ≡ (eqb c.first_time.result c.time_at.result && laid_from c.count-n.result s records_at) =
+    rw (eq-eqb _ _ c.if-s-ne-OCTETS.false, ← c.count-n.ensures, le-leb 1 c.count-n.result (omega arith), ← c.first_time.ensures, ← c.time_at.ensures) in
+    rw (left, eq-eqb _ _ c.if-first_time-time_at.false) c.are_laid.ensures

@@ -1,5 +1,4 @@
 -- `next_at` meets its contract: it looks at the two tests one after the other, and a record that would begin too late for its head is not whole.
--- the record is whole
 use Prim.Native.Nat.{◌+◌, ◌-◌, ◌<◌, ◌≤◌}
 use mathlib.Core.Path.{◌≡◌, sym, ap, ◌∙◌}
 use mathlib.Core.Bool.{true}
@@ -29,24 +28,21 @@ returns-then-end-gt-OCTETS c =
 pub returns-then-not-is_port : goal.returns-then-not-is_port
 unfolding record_at
 returns-then-not-is_port c =
+    let g = c.args in
+    let h : end_at g.s.now g.at ≤ 512 = omega (arith, c.end_at-end.ensures, c.if-end-gt-OCTETS.false) in
+    -- the record is whole
+    let whole : leb (end_at g.s.now g.at) 512 ≡ true = le-leb (end_at g.s.now g.at) 512 h in
     let f = sym (ap is_port c.port_at-port.ensures) ∙ sym c.is_port.ensures ∙ c.if-not-is_port.true in
-    rw (
-      (let it : let g = c.args in leb (end_at g.s.now g.at) 512 ≡ true = let g = c.args in
-          let h : end_at g.s.now g.at ≤ 512 = omega (arith, c.end_at-end.ensures, c.if-end-gt-OCTETS.false) in
-          le-leb (end_at g.s.now g.at) 512 h in it),
-      f,
-    )
+    rw (whole, f)
 
 pub returns : goal.returns
 unfolding record_at
 returns c =
     let g = c.args in
+    let h : end_at g.s.now g.at ≤ 512 = omega (arith, c.end_at-end.ensures, c.if-end-gt-OCTETS.false) in
+    -- the record is whole
+    let whole : leb (end_at g.s.now g.at) 512 ≡ true = le-leb (end_at g.s.now g.at) 512 h in
     let f = sym (ap is_port c.port_at-port.ensures) ∙ sym c.is_port.ensures ∙ c.if-not-is_port.false in
     let e = c.end_at-end.ensures in
     let n : c.end_at-end.result - 11 - g.at ≡ length_at g.s.now g.at = omega (arith, e) in
-    rw (
-      (let it : let g = c.args in leb (end_at g.s.now g.at) 512 ≡ true = let g = c.args in
-          let h : end_at g.s.now g.at ≤ 512 = omega (arith, c.end_at-end.ensures, c.if-end-gt-OCTETS.false) in
-          le-leb (end_at g.s.now g.at) 512 h in it),
-      f,
-    ) (λ i. Found (record { time = c.time_at.ensures i; port = c.port_at-port.ensures i; at = g.at + 11; length = n i; end = e i }))
+    rw (whole, f) (λ i. Found (record { time = c.time_at.ensures i; port = c.port_at-port.ensures i; at = g.at + 11; length = n i; end = e i }))
