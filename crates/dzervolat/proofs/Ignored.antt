@@ -48,9 +48,9 @@ module _ (κs : Lfts 3) (a b : Dens κs dz_read_kinds.ps) (x y : (res_t dz_read_
   dz_read_ignores s m w l p q =
       let r = read_same a.0.now b.0.now s a.1.0 ∙ ap (λ (k : ℕ). read_of k b.0.now) m in
       let t = tail_in_same a.0.now b.0.now s a.1.0 ∙ ap (λ (k : ℕ). tail_in k b.0.now) m in (
-        p.answer ∙ ap read_code r ∙ sym q.answer,
-        p.words ∙ (λ i. read_words (r i) (w i)) ∙ sym q.words,
-        p.rest ∙ (λ i. tail_words (r i) (length (t i)) (l i)) ∙ sym q.rest,
+        p.0 ∙ ap read_code r ∙ sym q.0,
+        p.1.0 ∙ (λ i. read_words (r i) (w i)) ∙ sym q.1.0,
+        p.1.1 ∙ (λ i. tail_words (r i) (length (t i)) (l i)) ∙ sym q.1.1,
       )
 
 module _ (κs : Lfts 2) (a b : Dens κs dz_lookup_kinds.ps) (x y : (res_t dz_lookup_kinds.r κs).Denot)
@@ -60,7 +60,7 @@ module _ (κs : Lfts 2) (a b : Dens κs dz_lookup_kinds.ps) (x y : (res_t dz_loo
   dz_lookup_ignores s k m w p q =
       let r = lookup_same a.0.now b.0.now s a.1.1.0 a.1.0 ∙ (λ i. lookup_of (m i) (k i) b.0.now) in
       let d = data_same a.0.now b.0.now s a.1.1.0 a.1.0 ∙ (λ i. data_in (m i) (k i) b.0.now) in
-      (p.answer ∙ ap tlv_code r ∙ sym q.answer, p.words ∙ (λ i. tlv_words (r i) (length (d i)) (w i)) ∙ sym q.words)
+      (p.0 ∙ ap tlv_code r ∙ sym q.0, p.1 ∙ (λ i. tlv_words (r i) (length (d i)) (w i)) ∙ sym q.1)
 
 module _ (κs : Lfts 2) (a b : Dens κs dz_walk_kinds.ps) (x y : (res_t dz_walk_kinds.r κs).Denot)
     (e f : AtExit (ended_of 2 dz_walk_kinds.ps dz_walk_kinds.r) κs) where
@@ -68,7 +68,7 @@ module _ (κs : Lfts 2) (a b : Dens κs dz_walk_kinds.ps) (x y : (res_t dz_walk_
       → dz_walk.Post κs a x e → dz_walk.Post κs b y f → (x ≡ y) × (e.1.1.1.0.now ≡ f.1.1.1.0.now)
   dz_walk_ignores s k m w p q =
       let r = walk_same a.0.now b.0.now s a.1.1.0 a.1.0 ∙ (λ i. next_in (m i) (k i) b.0.now) in
-      (p.answer ∙ ap walked_code r ∙ sym q.answer, p.words ∙ (λ i. walked_words (r i) (w i)) ∙ sym q.words)
+      (p.0 ∙ ap walked_code r ∙ sym q.0, p.1 ∙ (λ i. walked_words (r i) (w i)) ∙ sym q.1)
 
 module _ (κs : Lfts 2) (a b : Dens κs dz_suffix_kinds.ps) (x y : (res_t dz_suffix_kinds.r κs).Denot)
     (e f : AtExit (ended_of 2 dz_suffix_kinds.ps dz_suffix_kinds.r) κs) where
@@ -76,7 +76,7 @@ module _ (κs : Lfts 2) (a b : Dens κs dz_suffix_kinds.ps) (x y : (res_t dz_suf
       → dz_suffix.Post κs a x e → dz_suffix.Post κs b y f → (x ≡ y) × (e.1.1.0.now ≡ f.1.1.0.now)
   dz_suffix_ignores s m w p q =
       let r = suffix_same a.0.now b.0.now s a.1.0 ∙ ap (λ (k : ℕ). suffix_of k b.0.now) m in
-      (p.answer ∙ ap suffix_code r ∙ sym q.answer, p.words ∙ (λ i. suffix_words (r i) (w i)) ∙ sym q.words)
+      (p.0 ∙ ap suffix_code r ∙ sym q.0, p.1 ∙ (λ i. suffix_words (r i) (w i)) ∙ sym q.1)
 
 module _ (κs : Lfts 2) (a b : Dens κs dz_link_message_kinds.ps) (x y : (res_t dz_link_message_kinds.r κs).Denot)
     (e f : AtExit (ended_of 2 dz_link_message_kinds.ps dz_link_message_kinds.r) κs) where
@@ -84,7 +84,7 @@ module _ (κs : Lfts 2) (a b : Dens κs dz_link_message_kinds.ps) (x y : (res_t 
       → dz_link_message.Post κs a x e → dz_link_message.Post κs b y f → (x ≡ y) × (e.1.1.0.now ≡ f.1.1.0.now)
   dz_link_message_ignores s m w p q =
       let r = link_same a.0.now b.0.now s a.1.0 ∙ ap (λ (k : ℕ). link_of k b.0.now) m in
-      (p.answer ∙ ap link_code r ∙ sym q.answer, p.words ∙ (λ i. link_words (r i) (w i)) ∙ sym q.words)
+      (p.0 ∙ ap link_code r ∙ sym q.0, p.1 ∙ (λ i. link_words (r i) (w i)) ∙ sym q.1)
 
 module _ (κs : Lfts 2) (a b : Dens κs dz_origin_kinds.ps) (x y : (res_t dz_origin_kinds.r κs).Denot)
     (e f : AtExit (ended_of 2 dz_origin_kinds.ps dz_origin_kinds.r) κs) where
@@ -93,7 +93,7 @@ module _ (κs : Lfts 2) (a b : Dens κs dz_origin_kinds.ps) (x y : (res_t dz_ori
   dz_origin_ignores s u m w p q =
       let r = origin_check_same a.1.1.0 a.0.now b.0.now a.1.0.now b.1.0.now s u ∙ ap (λ (k : ℕ). origin_check k b.0.now b.1.0.now) m in
       let o = origin_same a.1.1.0 a.0.now b.0.now a.1.0.now b.1.0.now s u ∙ ap (λ (k : ℕ). origin_in k b.0.now b.1.0.now) m in
-      (p.answer ∙ ap code_of r ∙ sym q.answer, p.words ∙ (λ i. origin_words (r i) (o i) (w i)) ∙ sym q.words)
+      (p.0 ∙ ap code_of r ∙ sym q.0, p.1 ∙ (λ i. origin_words (r i) (o i) (w i)) ∙ sym q.1)
 
 module _ (κs : Lfts 2) (a b : Dens κs dz_take_kinds.ps) (x y : (res_t dz_take_kinds.r κs).Denot)
     (e f : AtExit (ended_of 2 dz_take_kinds.ps dz_take_kinds.r) κs) where
@@ -103,7 +103,7 @@ module _ (κs : Lfts 2) (a b : Dens κs dz_take_kinds.ps) (x y : (res_t dz_take_
   dz_take_ignores s w n t d c m p q =
       let r = plan_same (settings a.1.1.1.1.0 a.1.1.1.1.1.0 a.1.1.1.1.1.1.0) (port_of a.1.0) a.1.1.1.0.now b.1.1.1.0.now s a.0.now a.1.1.0
       ∙ (λ i. plan_at (settings (d i) (c i) (m i)) (w i) (port_of (n i)) (t i) b.1.1.1.0.now) in
-      (p.answer ∙ (λ i. code_of (outcome_of (r i))) ∙ sym q.answer, p.words ∙ (λ i. state_after (w i) (port_of (n i)) (t i) (r i)) ∙ sym q.words)
+      (p.0 ∙ (λ i. code_of (outcome_of (r i))) ∙ sym q.0, p.1 ∙ (λ i. state_after (w i) (port_of (n i)) (t i) (r i)) ∙ sym q.1)
 
 module _ (κs : Lfts 3) (a b : Dens κs dz_take_burst_kinds.ps) (x y : (res_t dz_take_burst_kinds.r κs).Denot)
     (e f : AtExit (ended_of 3 dz_take_burst_kinds.ps dz_take_burst_kinds.r) κs) where
@@ -112,7 +112,7 @@ module _ (κs : Lfts 3) (a b : Dens κs dz_take_burst_kinds.ps) (x y : (res_t dz
       → dz_take_burst.Post κs a x e → dz_take_burst.Post κs b y f → (x ≡ y) × (e.0.now ≡ f.0.now) × (e.1.1.0.now ≡ f.1.1.0.now)
   dz_take_burst_ignores s w r d c m p q =
       let l = burst_same (settings a.1.1.1.0 a.1.1.1.1.0 a.1.1.1.1.1.0) a.1.0.now b.1.0.now a.0.now a.1.1.0.now s in (
-        p.answer ∙ (λ i. code_of (burst_check (r i))) ∙ sym q.answer,
-        p.words ∙ l.0 ∙ (λ i. burst_words (settings (d i) (c i) (m i)) b.1.0.now (w i) (r i)) ∙ sym q.words,
-        p.rows ∙ l.1 ∙ (λ i. burst_rows (settings (d i) (c i) (m i)) b.1.0.now (w i) (r i)) ∙ sym q.rows,
+        p.0 ∙ (λ i. code_of (burst_check (r i))) ∙ sym q.0,
+        p.1.0 ∙ l.0 ∙ (λ i. burst_words (settings (d i) (c i) (m i)) b.1.0.now (w i) (r i)) ∙ sym q.1.0,
+        p.1.1 ∙ l.1 ∙ (λ i. burst_rows (settings (d i) (c i) (m i)) b.1.0.now (w i) (r i)) ∙ sym q.1.1,
       )
