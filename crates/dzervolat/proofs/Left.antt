@@ -1,8 +1,8 @@
 -- What each kind of answer leaves: where the number returned is not 0, the words and octets at exit are those at entry.
 use Prim.Native.Nat.{ℕ}
-use mathlib.Core.Path.{◌≡◌, refl, sym, ap, ◌∙◌}
+use mathlib.Core.Path.{◌≡◌, refl, ap, ◌∙◌}
 use mathlib.Core.Bool.{Bool, true, false, not}
-use mathlib.Core.List.{List, []}
+use mathlib.Core.List.{List}
 use lib.IntN.{ℤ}
 use lib.Dec.{ltb}
 use lib.ListN.{length}
@@ -30,7 +30,7 @@ use Rattle.writer.specs.Writing.{write_check, write_of, buffer_of, lent_by as fi
 use Rattle.wr_tlvs.specs.Built.{link_octets}
 use Rattle.rank.specs.declared.Ranked.{Ranked}
 use Rattle.rank.specs.declared.Ranking.{Ranking}
-use Rattle.rank.specs.Calls.{refused_of, done_of}
+use Rattle.rank.specs.Calls.{refused_of}
 use Rattle.decide.specs.declared.Answer.{Answer}
 use Rattle.decide.specs.declared.Answer.TheVariants as answer
 use Rattle.senders.specs.declared.Asked.{Asked}
@@ -51,7 +51,7 @@ use Rattle.ports.proofs.Follows.{set_refusal_leaves}
 use Rattle.election.specs.declared.Leader.{Leader}
 use Rattle.election.specs.declared.Leader.TheVariants as leader
 use Rattle.election.specs.Elected.{every_port, any_late, elected_of}
-use Rattle.election.specs.Decisions.{octets_at, out_after}
+use Rattle.election.specs.Decisions.{octets_at}
 use Rattle.link.specs.declared.Event.{Event}
 use Rattle.link.specs.declared.Settings as link
 use Rattle.links.specs.declared.Taken.{Taken}

@@ -1,12 +1,10 @@
 -- Laws of `be` over the width: a bound, two halves, and that reading gives what was written.
-use Prim.Native.Nat.{ℕ, zero, suc, ◌+◌, ◌*◌, ◌/◌, ◌%◌, ◌^◌, ◌-◌, ◌<◌, ◌≤◌}
-use mathlib.Core.Path.{◌≡◌, refl, sym, ap, subst, ◌∙◌}
-use mathlib.Core.Logic.{◌⊎◌, inl, inr, ⊎_elim}
+use Prim.Native.Nat.{ℕ, zero, suc, ◌+◌, ◌*◌, ◌/◌, ◌%◌, ◌^◌, ◌<◌, ◌≤◌}
+use mathlib.Core.Path.{◌≡◌, refl, ap}
 use mathlib.Core.List.{List, [], ◌∷◌}
-use native.Mathlib.Nat.{pow-suc, add-suc, suc-add, add-zero, zero-add, pow-zero, add_assoc, add_comm, pow-le-pow_right, lt_of_lt_of_le, div-lt_iff_lt-mul, div-add-mod'}
-use native.Mathlib.Numerals.{sub-one}
+use native.Mathlib.Nat.{pow-suc, add-suc, add-zero, zero-add, pow-zero, add_assoc, add_comm, pow-le-pow_right, lt_of_lt_of_le, div-lt_iff_lt-mul, div-add-mod'}
 use native.Mathlib.Omega.{arith}
-use lib.ListN.{length, get_or, set, take, drop, length-set}
+use lib.ListN.{length, get_or, take, drop}
 use lib.Seq.{get_or-drop, get_or-take}
 use lib.Arith.{digits_lt}
 use Rattle.octets.specs.Be.{be, octets_of}

@@ -1,5 +1,5 @@
 -- What a refusal returns: its number is none of 0 and has room in eight bits, so that number and place can be told apart.
-use Prim.Native.Nat.{ℕ, ◌+◌, ◌*◌, ◌/◌, ◌%◌, ◌<◌}
+use Prim.Native.Nat.{◌/◌, ◌%◌, ◌<◌}
 use mathlib.Core.Path.{◌≡◌}
 use native.Mathlib.Omega.{arith}
 use Rattle.refusal.specs.Refusal.{number_of, place_of, answer_of}

@@ -1,5 +1,5 @@
 -- `dz_origin` meets its contract: by what `origin_says` says.
-use mathlib.Core.Path.{◌≡◌, refl, sym, ap, ◌∙◌}
+use mathlib.Core.Path.{◌≡◌, sym, ap, ◌∙◌}
 use Rattle.refusal.specs.declared.Outcome.TheVariants.{Done}
 use Rattle.origin.specs.Origin.{origin_check, origin_in}
 use Rattle.origin.proofs.Laws.{origin_stamped, ten_octets}
