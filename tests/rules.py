@@ -1,6 +1,6 @@
 #!/usr/bin/env python3
 """Sees that the pages of the project name nothing that is not there. In docs/*.md and README.md, between backquotes or not, every path must exist, as it
-stands, below crates/ or in some crate; every name behind a path (`senders/specs/Record.antt: isLive, isQualified`) must be defined in that file;
+stands, below crates/ or in some crate; every name behind a path (`senders/specs/Record.antt: is_live, is_qualified`) must be defined in that file;
 every `crate::module::name` must be an item of that crate. A part of a path in CAPITALS stands for any name; what is built (target/), and a file with
 a line behind it (`src/protocol.c:3580`), which is another project's, are not asked for. In docs/RULES.md, what stands behind Definition, Contract and
 Theorem must be of the second form, each rule has an id of its own, and ids that are cited exist; so do the numbers of readings. The page of the day
