@@ -1,8 +1,8 @@
 -- `times` meets its contract: the sum, and what is left of k times the unit, make up the product.
--- the last digit of what is left, and the rest of it twice
 use Rattle.std.proofs.Common.{◌≡◌, ℕ, ◌+◌, ◌*◌, ◌/◌, ◌%◌, ap, ◌∙◌, mul_assoc, add-mul, arith}
 use Rattle.quotient.proofs.times.Goals as goal
 
+-- the last digit of what is left, and the rest of it twice
 halved : (left unit : ℕ) → left * unit ≡ left % 2 * unit + left / 2 * (unit + unit)
 halved left unit =
     let e : left ≡ left % 2 + left / 2 * 2 = omega arith in

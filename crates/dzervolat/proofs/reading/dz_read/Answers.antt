@@ -1,5 +1,4 @@
 -- `dz_read` meets its contract: a message in which nothing is wrong is put into the words, and of any other the checks say why not.
--- a message whose lengths are told passes the checks
 use mathlib.Core.Path.{◌≡◌, refl, ap, ◌∙◌}
 use native.Mathlib.Omega.{arith}
 use lib.ListN.{length}
@@ -14,6 +13,7 @@ use Rattle.contents.proofs.SoundLaws.{whole_bounds, refused_bounds}
 use Rattle.message_words.proofs.ReadingLaws.{unread, tail_read}
 use Rattle.dzervolat.proofs.reading.dz_read.Goals as goal
 
+-- a message whose lengths are told passes the checks
 whole : (c : goal.Else-size-eq0) → let a = c.args in
     (check_of a.magic a.octets.now ≡ Done) × (c.sound_bounds-b.result ≡ bounds_at a.octets.now)
 whole c =
