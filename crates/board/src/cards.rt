@@ -2,8 +2,8 @@
 ghost use Rattle.std.specs.Prelude.{◌≡◌, ◌≤◌, take};
 ghost use Rattle.rank.specs.Calls.{ranking_of};
 
+use refusal::Refusal;
 use rank::{Candidate, Ranked, Ranking};
-use senders::Asked;
 
 // Ports on a card, and candidates that they hear at most.
 const PORTS: u8 = 6;
@@ -38,22 +38,22 @@ fn blank() -> Candidate {
 }
 
 // The candidate that was asked for, or another where there is none.
-fn candidate_or(a: Asked, other: Candidate) -> Candidate {
+fn candidate_or(a: Result<Option<Candidate>, Refusal>, other: Candidate) -> Candidate {
     match a {
-        Asked::Found(c) => c,
-        Asked::Absent => other,
-        Asked::Refused(_) => other,
+        Ok(Some(c)) => c,
+        Ok(None) => other,
+        Err(_) => other,
     }
 }
 
 // 1 where a candidate was asked for and is there, else 0.
-fn counted(a: Asked) -> usize
+fn counted(a: Result<Option<Candidate>, Refusal>) -> usize
     ensures { result ≤ 1 }
 {
     match a {
-        Asked::Found(_) => 1,
-        Asked::Absent => 0,
-        Asked::Refused(_) => 0,
+        Ok(Some(_)) => 1,
+        Ok(None) => 0,
+        Err(_) => 0,
     }
 }
 

@@ -2,7 +2,6 @@
 use crate::{Parent, kept, named};
 use rank::Grandmaster;
 use senders::Record;
-use slots::Seen;
 use std::io;
 use std::io::Write;
 
@@ -23,8 +22,8 @@ fn equal(a: Grandmaster, b: Grandmaster) -> u64 {
 }
 
 // Which Announce won.
-fn winner<W: Write>(out: &mut W, s: Seen) -> io::Result<()> {
-    let Seen::Held(r) = s else {
+fn winner<W: Write>(out: &mut W, s: Option<Record>) -> io::Result<()> {
+    let Some(r) = s else {
         return Ok(());
     };
     let notice = r.notice;
@@ -36,13 +35,13 @@ fn winner<W: Write>(out: &mut W, s: Seen) -> io::Result<()> {
 }
 
 // What a record's sender announced; our own quality where there is none.
-fn grade(s: Seen, own: Grandmaster) -> Grandmaster {
+fn grade(s: Option<Record>, own: Grandmaster) -> Grandmaster {
     match s {
-        Seen::Held(r) => {
+        Some(r) => {
             let notice = r.notice;
             notice.grandmaster
         }
-        Seen::Empty => own,
+        None => own,
     }
 }
 
@@ -92,20 +91,20 @@ fn lost<W: Write>(out: &mut W, r: Record, window: u64, t: u64, new: Grandmaster)
 
 fn loser<W: Write>(
     out: &mut W,
-    s: Seen,
+    s: Option<Record>,
     window: u64,
     t: u64,
     new: Grandmaster,
     own: Grandmaster,
 ) -> io::Result<()> {
     match s {
-        Seen::Held(r) => lost(out, r, window, t, new),
-        Seen::Empty => beaten(out, new, own),
+        Some(r) => lost(out, r, window, t, new),
+        None => beaten(out, new, own),
     }
 }
 
 // The parent that is there now, and by which Announce.
-fn come<W: Write>(out: &mut W, p: Parent, is: Seen, t: u64) -> io::Result<()> {
+fn come<W: Write>(out: &mut W, p: Parent, is: Option<Record>, t: u64) -> io::Result<()> {
     page::tell(out, b"%t  parent: ", &[t])?;
     named(out, p)?;
     winner(out, is)?;

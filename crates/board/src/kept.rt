@@ -1,8 +1,7 @@
 // What a port keeps: how many of its sixteen records are live, how many are candidates, and the record of a sender.
+use senders::Record;
 use crate::Parent;
-use ports::asking::{Looked, Status};
 use rank::PortIdentity;
-use slots::Seen;
 use std::io;
 use std::io::Write;
 
@@ -14,24 +13,24 @@ pub struct Records {
 }
 
 // What a port's slot holds.
-fn seen(words: &[u64; ports::WORDS], port: u8, slot: usize) -> Seen {
+fn seen(words: &[u64; ports::WORDS], port: u8, slot: usize) -> Option<Record> {
     match ports::asking::look(words, port, slot) {
-        Looked::Slot(s) => s,
-        Looked::Refused(_) => Seen::Empty,
+        Ok(s) => s,
+        Err(_) => None,
     }
 }
 
 // The counts with what one slot more holds.
-fn one(n: Records, s: Seen, window: u64, t: u64) -> Records {
+fn one(n: Records, s: Option<Record>, window: u64, t: u64) -> Records {
     match s {
-        Seen::Held(r) => Records {
+        Some(r) => Records {
             live: std::num::wrapping_add_u64(n.live, senders::is_live(r, window, t) as u64),
             candidates: std::num::wrapping_add_u64(
                 n.candidates,
                 senders::is_qualified(r, window, t) as u64,
             ),
         },
-        Seen::Empty => n,
+        None => n,
     }
 }
 
@@ -53,14 +52,14 @@ pub fn kept(words: &[u64; ports::WORDS], port: u8, t: u64) -> Records {
 // A port's window in nanoseconds.
 pub fn window(words: &[u64; ports::WORDS], port: u8) -> u64 {
     match ports::asking::port_status(words, port) {
-        Status::Known(_, k) => senders::window(octets::bits8(k) as u64),
-        Status::Refused(_) => 0,
+        Ok((_, k)) => senders::window(octets::bits8(k) as u64),
+        Err(_) => 0,
     }
 }
 
 // The record so far, or this one where it is of the clock's first port.
-fn nearer(so_far: Seen, s: Seen, clock: u64) -> Seen {
-    let Seen::Held(r) = s else {
+fn nearer(so_far: Option<Record>, s: Option<Record>, clock: u64) -> Option<Record> {
+    let Some(r) = s else {
         return so_far;
     };
     if senders::is_of(r, PortIdentity { clock, port: 1 }) {
@@ -71,8 +70,8 @@ fn nearer(so_far: Seen, s: Seen, clock: u64) -> Seen {
 }
 
 // The record of a parent's first port on the port that hears it.
-pub fn record(words: &[u64; ports::WORDS], p: Parent) -> Seen {
-    let mut s = Seen::Empty;
+pub fn record(words: &[u64; ports::WORDS], p: Parent) -> Option<Record> {
+    let mut s = None;
     let mut i: usize = 0;
     while i < 16 {
         s = nearer(s, seen(words, p.port, i), p.clock);

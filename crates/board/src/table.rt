@@ -1,16 +1,16 @@
 // The table of the ports at the day's end, and what each card ranks.
+use refusal::Refusal;
 use crate::{Parent, cards, kept};
 use page::tally;
 use page::tally::COUNTS;
-use rank::Ranked;
-use senders::Asked;
+use rank::{Candidate, Ranked};
 use std::io;
 use std::io::Write;
 
 // A port's line: the decision, the sender, grandmaster and steps of its best, dashes where it has none, and how many records are
 // live.
-fn line_told<W: Write>(out: &mut W, port: u8, code: u8, best: Asked, live: u64) -> io::Result<()> {
-    let Asked::Found(c) = best else {
+fn line_told<W: Write>(out: &mut W, port: u8, code: u8, best: Result<Option<Candidate>, Refusal>, live: u64) -> io::Result<()> {
+    let Ok(Some(c)) = best else {
         return page::tell(
             out,
             b"%4  %c        -                 -                     -%6/16\n",

@@ -1,5 +1,6 @@
 -- A BURST IS ITS MESSAGES TAKEN ONE AFTER ANOTHER, so what holds of histories holds across it: it may be split anywhere, nobody is pushed
 -- out by it, a port's answers follow from the port's own messages, and messages of different ports may change places.
+use Rattle.std.specs.Prelude.{Result, Ok, Err}
 use mathlib.Core.Path.{◌≡◌, refl, sym, ap, subst, ◌∙◌}
 use mathlib.Core.Bool.{Bool, true, false}
 use mathlib.Core.List.{List, [], ◌∷◌, ◌++◌}
@@ -13,10 +14,8 @@ use Rattle.refusal.specs.Limits.{port_count}
 use Rattle.refusal.specs.Choice.{pick, refuse}
 use Rattle.refusal.specs.Refusal.{code_of}
 use Rattle.refusal.specs.declared.Refusal.TheVariants.{Many}
-use Rattle.refusal.specs.declared.Outcome.TheVariants.{Refused, Done}
 use Rattle.rank.specs.declared.PortIdentity.{PortIdentity}
 use Rattle.rank.specs.Ranked.{is_port}
-use Rattle.senders.specs.declared.Plan.{Plan}
 use Rattle.senders.specs.Port.{outcome_of}
 use Rattle.senders.specs.History.{Receipt}
 use Rattle.senders.proofs.Steady.{HasRecord}
@@ -33,6 +32,8 @@ use Rattle.ports.proofs.Follows.{word_of, port_of_word, after_none, after_all, f
 use Rattle.ports.proofs.Ignored.{plan_same}
 use Rattle.ports.proofs.Staying.{keeps_place}
 use Rattle.ports.proofs.Accepted.{place_by_history}
+use Rattle.senders.specs.declared.Record.{Record}
+use Rattle.refusal.specs.declared.Refusal.{Refusal}
 
 -- ---- refused exactly when
 -- 17 WHERE IT HOLDS MORE THAN 288 MESSAGES, WHATEVER THEY ARE, ELSE 0: the number given has its line ..
@@ -40,7 +41,7 @@ pub burst_told : (ms : List (List ℕ)) → BurstWhen ms (code_of (burst_check m
 unfolding refuse
 burst_told ms = go (is_many ms) refl
   where
-    go : (b : Bool) → is_many ms ≡ b → BurstWhen ms (code_of (refuse b (Refused Many) Done))
+    go : (b : Bool) → is_many ms ≡ b → BurstWhen ms (code_of (refuse b (Err Many) (Ok tt)))
     go true e = many (ltb-true 288 (length ms) e)
     go false e = done (ltb-false 288 (length ms) e)
 
@@ -262,7 +263,7 @@ module _ (by : Settings) (o p : List ℕ) where
       let behind = alike_both (after ws (call_of by o m)) ms l.1 in (
         behind.0 ∙ ap (λ (vs : List ℕ). run vs (calls_of by p ms)) words,
         ap (λ (r : List (List ℕ)). set m 4 (answer_to by o ws m) ∷ r) (behind.1 ∙ ap (λ (vs : List ℕ). answered by p vs ms) words)
-            ∙ ap (λ (q : Plan). set m 4 (code_of (outcome_of q)) ∷ answered by p (after ws (call_of by p m)) ms) plan,
+            ∙ ap (λ (q : Result (ℕ × Record) Refusal). set m 4 (code_of (outcome_of q)) ∷ answered by p (after ws (call_of by p m)) ms) plan,
       )
 
   -- messages that differ only in reserved fields, controlField and padding leave the same words and have the same answers

@@ -1,4 +1,5 @@
 -- A burst on its way: the octets of a message as they were lent, and the messages taken one after another.
+use Rattle.std.specs.Prelude.{Result}
 use mathlib.Core.Path.{◌≡◌, refl, sym, ap, subst, ◌∙◌}
 use mathlib.Core.List.{List, [], ◌∷◌, ◌++◌, append-nil}
 use Prim.Native.Nat.{ℕ, zero, suc, ◌+◌, ◌-◌, ◌≤◌, ◌<◌, min}
@@ -7,7 +8,6 @@ use native.Mathlib.Omega.{arith}
 use lib.ListN.{length, get_or, set, take, drop, length-drop, length-set, drop_of_length-le}
 use lib.Seq.{take-nil, drop-nil, take_all, drop-cons, drop-set-lt, take-suc-set, append_snoc}
 use Rattle.refusal.specs.Refusal.{code_of}
-use Rattle.senders.specs.declared.Plan.{Plan}
 use Rattle.senders.specs.Port.{outcome_of}
 use Rattle.slots.specs.Words.{block}
 use Rattle.ports.specs.declared.intake.Settings.{Settings}
@@ -15,6 +15,8 @@ use Rattle.ports.specs.Intake.{plan_at, state_after}
 use Rattle.ports.specs.When.{take_number}
 use Rattle.ports.specs.History.{after, run}
 use Rattle.bursts.specs.Burst.{port_in, time_in, octets_in, call_of, calls_of, answer_to, answered}
+use Rattle.senders.specs.declared.Record.{Record}
+use Rattle.refusal.specs.declared.Refusal.{Refusal}
 
 -- ---- the octets that are there
 drop_most : (n : ℕ) (l : List ℕ) → drop (min n (length l)) l ≡ drop n l
@@ -50,7 +52,7 @@ pub taken_as : (by : Settings) (o ws m s ws' : List ℕ) (a : ℕ) → s ≡ oct
     → (ws' ≡ after ws (call_of by o m)) × (a ≡ answer_to by o ws m)
 taken_as by o ws m s ws' a e took =
     let plan = ap (plan_at by ws (port_in m) (time_in m)) e in
-    (took.1 ∙ ap (state_after ws (port_in m) (time_in m)) plan, took.0 ∙ ap (λ (q : Plan). code_of (outcome_of q)) plan)
+    (took.1 ∙ ap (state_after ws (port_in m) (time_in m)) plan, took.0 ∙ ap (λ (q : Result (ℕ × Record) Refusal). code_of (outcome_of q)) plan)
 
 module _ (by : Settings) (o ws₀ : List ℕ) (ms₀ : List (List ℕ)) (ws : List ℕ) (ms : List (List ℕ)) (i : ℕ) (u : Underway by o ws₀ ms₀ ws ms i) where
   one : i < length ms

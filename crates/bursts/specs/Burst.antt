@@ -2,11 +2,9 @@
 -- among them, equal those of taking them all one after another. Refusals: MANY if the burst holds more than 288, checked first,
 -- nothing taken.").
 -- A message is a row of five words: port, time, where it begins in the octets lent, how many octets it has, its answer.
-use Rattle.std.specs.Prelude.{ℕ, zero, suc, ◌≤◌, ◌<◌, List, [], ◌∷◌, ◌++◌, map, Bool, eqb, ltb, length, get_or, set}
+use Rattle.std.specs.Prelude.{ℕ, zero, suc, ◌≤◌, ◌<◌, List, [], ◌∷◌, ◌++◌, map, Bool, eqb, ltb, length, get_or, set, Result, Ok, Err}
 use Rattle.refusal.specs.Choice.{pick, refuse}
 use Rattle.refusal.specs.Refusal.{code_of}
-use Rattle.refusal.specs.declared.Outcome.{Outcome}
-use Rattle.refusal.specs.declared.Outcome.TheVariants.{Refused, Done}
 use Rattle.refusal.specs.declared.Refusal.TheVariants.{Many}
 use Rattle.message.specs.Ignored.{Alike}
 use Rattle.senders.specs.Port.{outcome_of}
@@ -17,6 +15,7 @@ use Rattle.ports.specs.declared.intake.Settings.{Settings}
 use Rattle.ports.specs.Intake.{admitted_of, plan_by}
 use Rattle.ports.specs.History.{Call, taking, after, run, own_after}
 use Rattle.ports.specs.When.{take_number}
+use Rattle.refusal.specs.declared.Refusal.{Refusal}
 
 -- the port, the time and the octets of a message: of those that it names, the ones that were lent
 abbrev pub port_in : List ℕ → ℕ
@@ -47,8 +46,8 @@ answered by o ws (m ∷ ms) = set m 4 (answer_to by o ws m) ∷ answered by o (a
 abbrev pub is_many : List (List ℕ) → Bool
 is_many ms = ltb 288 (length ms)
 
-abbrev pub burst_check : List (List ℕ) → Outcome
-burst_check ms = refuse (is_many ms) (Refused Many) Done
+abbrev pub burst_check : List (List ℕ) → Result (Unit {0}) Refusal
+burst_check ms = refuse (is_many ms) (Err Many) (Ok tt)
 
 -- the words of the clock after a burst, and the messages: "nothing taken" where it is refused
 abbrev pub burst_words : Settings → List ℕ → List ℕ → List (List ℕ) → List ℕ

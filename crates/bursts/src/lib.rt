@@ -13,7 +13,7 @@ ghost use Rattle.bursts.specs.Burst.{calls_of, answered, burst_check, burst_word
 
 use ports::WORDS;
 use ports::intake::Settings;
-use refusal::{Outcome, Refusal};
+use refusal::Refusal;
 
 // The words of a message.
 pub const ROW: usize = 5;
@@ -28,7 +28,7 @@ pub fn answer(words: &mut [u64; WORDS], port: u64, t: u64, s: &[u8], set: Settin
     ensures words { words.new ≡ state_after words.old (port_of port) t (plan_at set words.old (port_of port) t s.now) }
 {
     if (refusal::PORTS as u64) < port {
-        return refusal::code(Outcome::Refused(Refusal::Port));
+        return refusal::code(Err(Refusal::Port));
     }
     refusal::code(ports::intake::take(words, port as u8, t, s, set))
 }
@@ -70,14 +70,14 @@ pub fn take_burst(
     octets: &[u8],
     burst: &mut [[u64; ROW]],
     set: Settings,
-) -> Outcome
+) -> Result<(), Refusal>
     ensures answer { result ≡ burst_check burst.old }
     ensures words { words.new ≡ burst_words set octets.now words.old burst.old }
     ensures rows { burst.new ≡ burst_rows set octets.now words.old burst.old }
 {
     if MOST < burst.len() {
-        return Outcome::Refused(Refusal::Many);
+        return Err(Refusal::Many);
     }
     take_each(words, octets, burst, set);
-    Outcome::Done
+    Ok(())
 }

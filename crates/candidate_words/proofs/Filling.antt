@@ -1,4 +1,5 @@
 -- What filling places gives: the ranked list of all that was inserted, whatever the unused places say.
+use Rattle.std.specs.Prelude.{Result, Ok, Err}
 use Prim.Native.Nat.{ℕ, ◌≤◌, ◌<◌}
 use mathlib.Core.Path.{◌≡◌, sym, ap, ◌∙◌}
 use mathlib.Core.Bool.{Bool, true, false, not}
@@ -11,7 +12,6 @@ use lib.Seq.{slice, take-length, take-append_seam, length-take-le, get_or-take}
 use Rattle.refusal.specs.Choice.{refuse}
 use Rattle.refusal.specs.declared.Refusal.{Refusal}
 use Rattle.refusal.specs.declared.Refusal.TheVariants.{Many, Port, Field}
-use Rattle.refusal.specs.declared.Outcome.TheVariants.{Done, Refused}
 use Rattle.rank.specs.declared.Candidate.{Candidate}
 use Rattle.rank.specs.declared.Ranked.{Ranked}
 use Rattle.rank.specs.Order.{earlier_of}
@@ -93,11 +93,11 @@ pub record Passed (run : List (List ℕ)) : Type 0 where
   pub fits : run_fits run ≡ true
   pub ranking : ranking_of (run_of run) ≡ done_of (rank_of (run_of run))
 
-never_done : (b : Bool) (x : Refusal) → outcome_fitted b (Refused x) ≡ Done → ⊥
+never_done : (b : Bool) (x : Refusal) → outcome_fitted b (Err x) ≡ Ok tt → ⊥
 never_done b x h =
-    let e : Refused x ≡ Done = sym (refused_stays b x) ∙ h in let z : ◌≡◌ {A = ℕ} 0 1 = cc in omega arith
+    let e : ◌≡◌ {A = Result (Unit {0}) Refusal} (Err x) (Ok tt) = sym (refused_stays b x) ∙ h in let z : ◌≡◌ {A = ℕ} 0 1 = cc in omega arith
 
-pub passed : (run : List (List ℕ)) → checked_of run ≡ Done → Passed run
+pub passed : (run : List (List ℕ)) → checked_of run ≡ Ok tt → Passed run
 unfolding refuse
 passed run h =
     cases (ltb 288 (length (run_of run)))
@@ -107,7 +107,7 @@ passed run h =
     (λ v.
     cases (run_fits run)
     (λ f. record { valid = v; fits = f; ranking = simp (e, v) })
-    (λ f. let k : Refused Field ≡ Done = simp (e, v, f) at h in absurd (let z : ◌≡◌ {A = ℕ} 0 1 = cc in omega arith)))
+    (λ f. let k : ◌≡◌ {A = Result (Unit {0}) Refusal} (Err Field) (Ok tt) = simp (e, v, f) at h in absurd (let z : ◌≡◌ {A = ℕ} 0 1 = cc in omega arith)))
     (λ v. absurd (never_done (run_fits run) Port (simp (e, v) at h))))
 
 pub fit_each : (run : List (List ℕ)) → Passed run → (i : ℕ) → i < length run → Fit run i

@@ -1,5 +1,6 @@
 -- Words that a call gives are read back as what they were packed from: a candidate, a ranked list, and a best, whose numbers fit their fields. And words
 -- that fit are packed again as they stood.
+use Rattle.std.specs.Prelude.{Some}
 use Prim.Native.Nat.{ℕ, ◌+◌, ◌%◌, ◌≤◌, ◌<◌}
 use mathlib.Core.Path.{◌≡◌, ap}
 use mathlib.Core.Bool.{true}
@@ -13,7 +14,6 @@ use Rattle.words.specs.Words.{port_of}
 use Rattle.rank.specs.declared.Candidate.{Candidate}
 use Rattle.rank.specs.declared.Ranked.{Ranked}
 use Rattle.rank.proofs.Merging.{both}
-use Rattle.decide.specs.declared.Erbest.TheVariants.{Present}
 use Rattle.candidate_words.specs.Fits.{candidate_fits}
 use Rattle.candidate_words.specs.Candidates.{candidate_at, candidate_words, ranked_of, ranked_words, found_words, best_of}
 use Rattle.candidate_words.specs.Places.{words_at}
@@ -67,8 +67,8 @@ list_kept n a b c d p q r s =
     λ i. record { len = n; slots = candidate_kept a p i ∷ candidate_kept b q i ∷ candidate_kept c r i ∷ candidate_kept d s i ∷ [] }
 
 -- what asking gives is what deciding takes
-pub best_kept : (c : Candidate) → Fits c → best_of (found_words c) ≡ Present c
-best_kept c h = ap Present (candidate_kept c h)
+pub best_kept : (c : Candidate) → Fits c → best_of (found_words c) ≡ Some c
+best_kept c h = ap Some (candidate_kept c h)
 
 -- numbers below their limits, and tests of that
 octet_by_lem : (n : ℕ) → ltb n 256 ≡ true → n % 256 ≡ n

@@ -1,4 +1,5 @@
 -- A run one candidate at a time: what is refused of it, and the candidates that it holds.
+use Rattle.std.specs.Prelude.{Result, Ok, Err}
 use Prim.Native.Nat.{ℕ, zero, suc, ◌+◌, ◌≤◌, ◌<◌}
 use mathlib.Core.Path.{◌≡◌, refl, sym, ap, ◌∙◌}
 use mathlib.Core.Bool.{Bool, true, false, ◌&&◌, and_assoc}
@@ -11,8 +12,6 @@ use lib.Seq.{slice, slice-cons, drop-cons, drop-length}
 use Rattle.refusal.specs.Choice.{pick, refuse}
 use Rattle.refusal.specs.declared.Refusal.{Refusal}
 use Rattle.refusal.specs.declared.Refusal.TheVariants.{Many, Port, Field}
-use Rattle.refusal.specs.declared.Outcome.{Outcome}
-use Rattle.refusal.specs.declared.Outcome.TheVariants.{Done, Refused}
 use Rattle.words.specs.Words.{port_of}
 use Rattle.rank.specs.declared.Candidate.{Candidate}
 use Rattle.rank.specs.Ranked.{is_port, all_valid}
@@ -48,14 +47,14 @@ left_none run i p q =
     rw e (drop-length run)
 
 -- what is refused of the rest of a run, where what came before it fits or not
-abbrev pub so_far : Bool → List (List ℕ) → Outcome
-so_far whole run = outcome_fitted (whole && run_fits run) (pick (all_valid (run_of run)) Done (Refused Port))
+abbrev pub so_far : Bool → List (List ℕ) → Result (Unit {0}) Refusal
+so_far whole run = outcome_fitted (whole && run_fits run) (pick (all_valid (run_of run)) (Ok tt) (Err Port))
 
-pub refused_stays : (b : Bool) (x : Refusal) → outcome_fitted b (Refused x) ≡ Refused x
+pub refused_stays : (b : Bool) (x : Refusal) → outcome_fitted b (Err x) ≡ Err x
 refused_stays true x = refl
 refused_stays false x = refl
 
-pub check_many : (run : List (List ℕ)) → 288 < length run → Refused Many ≡ checked_of run
+pub check_many : (run : List (List ℕ)) → 288 < length run → Err Many ≡ checked_of run
 unfolding refuse
 check_many run h = rw (run_length run, lt-ltb 288 (length run) h) (sym (refused_stays (run_fits run) Many))
 
@@ -69,7 +68,7 @@ module _ (run : List (List ℕ)) (whole : Bool) (i : ℕ) where
   abbrev this : List ℕ
   this = get_or run i []
 
-  pub check_port : i < length run → is_port (port_of (get_or this 9 0)) ≡ false → Refused Port ≡ so_far whole (drop i run)
+  pub check_port : i < length run → is_port (port_of (get_or this 9 0)) ≡ false → Err Port ≡ so_far whole (drop i run)
   check_port h e =
       rw (left_here run i h, e) (sym (refused_stays (whole && (candidate_fits this 0 && run_fits (drop (i + 1) run))) Port))
 
@@ -78,8 +77,8 @@ module _ (run : List (List ℕ)) (whole : Bool) (i : ℕ) where
   check_more h e =
       rw (left_here run i h, e, ← and_assoc whole (candidate_fits this 0) (run_fits (drop (i + 1) run)))
 
-  pub check_fits : i ≤ length run → length run ≤ i → whole ≡ true → Done ≡ so_far whole (drop i run)
+  pub check_fits : i ≤ length run → length run ≤ i → whole ≡ true → Ok tt ≡ so_far whole (drop i run)
   check_fits h k e = rw (left_none run i h k, e)
 
-  pub check_unfit : i ≤ length run → length run ≤ i → whole ≡ false → Refused Field ≡ so_far whole (drop i run)
+  pub check_unfit : i ≤ length run → length run ≤ i → whole ≡ false → Err Field ≡ so_far whole (drop i run)
   check_unfit h k e = rw (left_none run i h k, e)

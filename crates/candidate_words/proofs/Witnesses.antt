@@ -1,5 +1,6 @@
 -- The words of values whose numbers are all different, written out: an exchange of two words breaks the table, also where definition and code
 -- are changed alike. include/dzervolat.h has the same order.
+use Rattle.std.specs.Prelude.{Some, None, Ok}
 use Prim.Native.Nat.{ℕ}
 use mathlib.Core.Path.{◌≡◌, refl}
 use mathlib.Core.Bool.{true, false}
@@ -9,10 +10,8 @@ use Rattle.rank.specs.declared.Candidate.{Candidate}
 use Rattle.rank.specs.declared.Grandmaster.{Grandmaster}
 use Rattle.rank.specs.declared.PortIdentity.{PortIdentity}
 use Rattle.decide.specs.declared.DataSet.{DataSet}
-use Rattle.decide.specs.declared.Erbest.TheVariants.{Absent, Present}
 use Rattle.decide.specs.declared.Comparison.TheVariants.{ABetter, BBetter, ABetterByTopology, BBetterByTopology, Error1, Error2}
 use Rattle.senders.specs.declared.Record.{Record}
-use Rattle.ports.specs.declared.asking.Status.TheVariants.{Known}
 use Rattle.candidate_words.specs.Candidates.{grandmaster_at, candidate_at, set_of, best_of, candidate_words}
 use Rattle.candidate_words.specs.Fits.{candidate_fits, set_fits}
 use Rattle.candidate_words.specs.Answers.{status_words, record_words, comparison_number}
@@ -47,10 +46,10 @@ pub record Words : Type 0 where
   pub candidate_in_lem : candidate_at words 0 ≡ candidate
   pub set_in : set_of words ≡ set
   pub own_in : grandmaster_at words 0 ≡ grandmaster
-  pub best_in_lem : best_of (1 ∷ words) ≡ Present candidate
-  pub no_best_in : best_of (0 ∷ words) ≡ Absent
+  pub best_in_lem : best_of (1 ∷ words) ≡ Some candidate
+  pub no_best_in : best_of (0 ∷ words) ≡ None
   pub record_out : record_words kept ≡ 1 ∷ 8 ∷ 9 ∷ 21 ∷ 2 ∷ 23 ∷ 22 ∷ 1 ∷ 2 ∷ 3 ∷ 4 ∷ 5 ∷ 6 ∷ 7 ∷ 11 ∷ []
-  pub status_out : status_words (Known 31 (negsuc 2)) [] ≡ 31 ∷ 0xfffffffffffffffd ∷ []
+  pub status_out : status_words (Ok (31, negsuc 2)) [] ≡ 31 ∷ 0xfffffffffffffffd ∷ []
 
 pub in_order : Words
 in_order =

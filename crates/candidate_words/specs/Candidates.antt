@@ -1,6 +1,6 @@
 -- Candidates, ranked lists and data sets in words. A number that is read is taken modulo the width of its field; Fits tells whether it is the
 -- number that stands there. A port's word is never taken modulo anything.
-use Rattle.std.specs.Prelude.{ℕ, ◌+◌, ◌%◌, List, [], ◌∷◌, ◌++◌, eqb, get_or}
+use Rattle.std.specs.Prelude.{ℕ, ◌+◌, ◌%◌, List, [], ◌∷◌, ◌++◌, eqb, get_or, Option, Some, None, Result, Ok, Err}
 use Rattle.refusal.specs.Choice.{pick}
 use Rattle.refusal.specs.Refusal.{number_of}
 use Rattle.words.specs.Words.{port_of}
@@ -10,10 +10,7 @@ use Rattle.rank.specs.declared.Candidate.{Candidate}
 use Rattle.rank.specs.declared.Ranked.{Ranked}
 use Rattle.rank.specs.Ranked.{blank_of}
 use Rattle.decide.specs.declared.DataSet.{DataSet}
-use Rattle.decide.specs.declared.Erbest.{Erbest}
-use Rattle.decide.specs.declared.Erbest.TheVariants as best
-use Rattle.senders.specs.declared.Asked.{Asked}
-use Rattle.senders.specs.declared.Asked.TheVariants.{Refused, Absent, Found}
+use Rattle.refusal.specs.declared.Refusal.{Refusal}
 
 -- priority1, class, accuracy, variance, priority2, grandmasterIdentity
 abbrev pub grandmaster_at : List ℕ → ℕ → Grandmaster
@@ -53,8 +50,8 @@ set_of w =
     record { grandmaster = grandmaster_at w 0; steps = get_or w 6 0 % 65536; sender = identity_at w 7; receiver = identity_at w 9 }
 
 -- 0 where there is none; a candidate
-abbrev pub best_of : List ℕ → Erbest
-best_of w = pick (eqb (get_or w 0 0) 0) best.Absent (best.Present (candidate_at w 1))
+abbrev pub best_of : List ℕ → Option Candidate
+best_of w = pick (eqb (get_or w 0 0) 0) None (Some (candidate_at w 1))
 
 abbrev pub candidate_words : Candidate → List ℕ
 candidate_words c =
@@ -81,12 +78,12 @@ abbrev pub ranked_words : Ranked → List ℕ
 ranked_words r = r.len ∷ (slot_words r 0 ++ (slot_words r 1 ++ (slot_words r 2 ++ slot_words r 3)))
 
 -- what asking for a candidate gives: the number returned, and the twelve words at exit
-abbrev pub asked_code : Asked → ℕ
-asked_code (Refused x) = number_of x
-asked_code Absent = 0
-asked_code (Found c) = 0
+abbrev pub asked_code : Result (Option Candidate) Refusal → ℕ
+asked_code (Err x) = number_of x
+asked_code (Ok None) = 0
+asked_code (Ok (Some c)) = 0
 
-abbrev pub asked_words : Asked → List ℕ → List ℕ
-asked_words (Refused x) out = out
-asked_words Absent out = 0 ∷ 0 ∷ 0 ∷ 0 ∷ 0 ∷ 0 ∷ 0 ∷ 0 ∷ 0 ∷ 0 ∷ 0 ∷ 0 ∷ []
-asked_words (Found c) out = found_words c
+abbrev pub asked_words : Result (Option Candidate) Refusal → List ℕ → List ℕ
+asked_words (Err x) out = out
+asked_words (Ok None) out = 0 ∷ 0 ∷ 0 ∷ 0 ∷ 0 ∷ 0 ∷ 0 ∷ 0 ∷ 0 ∷ 0 ∷ 0 ∷ 0 ∷ []
+asked_words (Ok (Some c)) out = found_words c

@@ -1,14 +1,11 @@
 -- Words that their fields can hold, and what a call answers where they are not: "a value to write doesn't fit its field" is 18, here for every value
 -- that is handed over in words. Its own refusals come first, in 01's order.
-use Rattle.std.specs.Prelude.{ℕ, ◌+◌, ◌*◌, Bool, true, false, ◌&&◌, ◌||◌, List, [], ◌∷◌, eqb, leb, ltb, get_or}
-use Rattle.refusal.specs.declared.Outcome.{Outcome}
-use Rattle.refusal.specs.declared.Outcome.TheVariants as outcome
+use Rattle.std.specs.Prelude.{ℕ, ◌+◌, ◌*◌, Bool, true, false, ◌&&◌, ◌||◌, List, [], ◌∷◌, eqb, leb, ltb, get_or, Option, Some, None, Result, Ok, Err}
 use Rattle.refusal.specs.declared.Refusal.TheVariants.{Field}
 use Rattle.rank.specs.declared.Ranking.{Ranking}
-use Rattle.decide.specs.declared.Answer.{Answer}
-use Rattle.decide.specs.declared.Answer.TheVariants as answer
-use Rattle.election.specs.declared.Leader.{Leader}
-use Rattle.election.specs.declared.Leader.TheVariants as leader
+use Rattle.rank.specs.declared.Candidate.{Candidate}
+use Rattle.decide.specs.declared.Decision.{Decision}
+use Rattle.refusal.specs.declared.Refusal.{Refusal}
 
 -- priority1, class, accuracy, variance, priority2; any word is an identity
 abbrev pub grandmaster_fits : List ℕ → ℕ → Bool
@@ -42,21 +39,21 @@ run_fits [] = true
 run_fits (w ∷ ws) = candidate_fits w 0 && run_fits ws
 
 -- 18 where the words do not fit, unless the call itself refuses
-abbrev pub outcome_fitted : Bool → Outcome → Outcome
+abbrev pub outcome_fitted : Bool → Result (Unit {0}) Refusal → Result (Unit {0}) Refusal
 outcome_fitted true x = x
-outcome_fitted false outcome.Done = outcome.Refused Field
-outcome_fitted false (outcome.Refused x) = outcome.Refused x
+outcome_fitted false (Ok tt) = Err Field
+outcome_fitted false (Err x) = Err x
 
 abbrev pub ranking_fitted : Bool → Ranking → Ranking
 ranking_fitted fits x = record { outcome = outcome_fitted fits x.outcome; list = x.list }
 
-abbrev pub answer_fitted : Bool → Answer → Answer
+abbrev pub answer_fitted : Bool → Result Decision Refusal → Result Decision Refusal
 answer_fitted true x = x
-answer_fitted false (answer.Decided d) = answer.Refused Field
-answer_fitted false (answer.Refused x) = answer.Refused x
+answer_fitted false (Ok d) = Err Field
+answer_fitted false (Err x) = Err x
 
-abbrev pub leader_fitted : Bool → Leader → Leader
+abbrev pub leader_fitted : Bool → Result (Option Candidate) Refusal → Result (Option Candidate) Refusal
 leader_fitted true x = x
-leader_fitted false leader.Ours = leader.Refused Field
-leader_fitted false (leader.Master c) = leader.Refused Field
-leader_fitted false (leader.Refused x) = leader.Refused x
+leader_fitted false (Ok None) = Err Field
+leader_fitted false (Ok (Some c)) = Err Field
+leader_fitted false (Err x) = Err x

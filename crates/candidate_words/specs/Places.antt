@@ -1,9 +1,7 @@
 -- What only the code needs, and no rule of 01: candidates ranked where they lie, as places in a run of words.
-use Rattle.std.specs.Prelude.{ℕ, ◌+◌, ◌<◌, ◌≤◌, ◌≡◌, Bool, true, false, ◌&&◌, ◌||◌, List, [], ◌∷◌, ◌++◌, map, eqb, leb, ltb, length, get_or}
+use Rattle.std.specs.Prelude.{ℕ, ◌+◌, ◌<◌, ◌≤◌, ◌≡◌, Bool, true, false, ◌&&◌, ◌||◌, List, [], ◌∷◌, ◌++◌, map, eqb, leb, ltb, length, get_or, Result, Ok}
 use Rattle.std.proofs.Math.Seq.{slice}
 use Rattle.refusal.specs.Choice.{pick}
-use Rattle.refusal.specs.declared.Outcome.{Outcome}
-use Rattle.refusal.specs.declared.Outcome.TheVariants.{Done}
 use Rattle.rank.specs.declared.Candidate.{Candidate}
 use Rattle.rank.specs.declared.Ranked.{Ranked}
 use Rattle.rank.specs.Order.{lex}
@@ -14,6 +12,7 @@ use Rattle.candidate_words.specs.declared.places.Places.{Places}
 use Rattle.candidate_words.specs.Candidates.{candidate_at, ranked_of, ranked_words}
 use Rattle.candidate_words.specs.Fits.{candidate_fits, list_fits, run_fits, outcome_fitted, ranking_fitted}
 use Rattle.candidate_words.specs.Runs.{run_of}
+use Rattle.refusal.specs.declared.Refusal.{Refusal}
 
 -- the eleven words from b on, as they stand
 abbrev pub words_at : List ℕ → ℕ → List ℕ
@@ -60,7 +59,7 @@ unfoldable pub row_of : List (List ℕ) → Places → ℕ → List ℕ
 row_of run p k = pick (ltb k p.len) (get_or run (get_or p.at k 0) []) (0 ∷ 0 ∷ 0 ∷ 0 ∷ 0 ∷ 0 ∷ 0 ∷ 0 ∷ 0 ∷ 0 ∷ 0 ∷ [])
 
 -- what ranking a run answers before anything is ranked: 17, 8, then 18
-abbrev pub checked_of : List (List ℕ) → Outcome
+abbrev pub checked_of : List (List ℕ) → Result (Unit {0}) Refusal
 checked_of run = outcome_fitted (run_fits run) (ranking_of (run_of run)).outcome
 
 -- two lists as a run of eight candidates
@@ -99,5 +98,5 @@ merged_of a b = ranking_fitted (list_fits a && list_fits b) (merge_of (ranked_of
 
 pub record Merged (a b : List ℕ) (done : Bool) (before after : List ℕ) : Type 0 where
   pub left : done ≡ false → after ≡ before
-  pub outcome : done ≡ true → (merged_of a b).outcome ≡ Done
+  pub outcome : done ≡ true → (merged_of a b).outcome ≡ Ok tt
   pub words : done ≡ true → after ≡ ranked_words (merged_of a b).list

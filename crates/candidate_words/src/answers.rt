@@ -4,22 +4,19 @@ ghost use Rattle.std.specs.Prelude.{◌≡◌};
 ghost use Rattle.refusal.specs.Refusal.{code_of};
 ghost use Rattle.candidate_words.specs.Answers.{status_code, status_words, record_words, seen_words, looked_code, looked_words, decided_code, decided_words, leader_code, leader_words, comparison_number, ranking_words};
 
-use decide::{Answer, Comparison};
-use election::Leader;
-use ports::asking::{Looked, Status};
-use rank::Ranking;
-use refusal::Outcome;
+use refusal::Refusal;
+use decide::{Comparison, Decision};
+use rank::{Candidate, Ranking};
 use senders::Record;
-use slots::Seen;
 
 // A port's last accepted time and its interval's exponent.
-pub fn put_status(out: &mut [u64; 2], s: Status) -> u64
+pub fn put_status(out: &mut [u64; 2], s: Result<(u64, i8), Refusal>) -> u64
     ensures answer { result ≡ status_code s }
     ensures words { out.new ≡ status_words s out.old }
 {
     match s {
-        Status::Refused(x) => refusal::number(x),
-        Status::Known(last, k) => {
+        Err(x) => refusal::number(x),
+        Ok((last, k)) => {
             *out = [last, words::word_of_i8(k)];
             0
         }
@@ -53,27 +50,27 @@ fn record_words(r: Record) -> [u64; 15]
 }
 
 // What a slot holds, zeros where it never held a record.
-fn put_seen(out: &mut [u64; 15], s: Seen)
+fn put_seen(out: &mut [u64; 15], s: Option<Record>)
     ensures { out.new ≡ seen_words s }
 {
     match s {
-        Seen::Empty => {
+        None => {
             *out = [0; 15];
         }
-        Seen::Held(r) => {
+        Some(r) => {
             *out = record_words(r);
         }
     }
 }
 
 // What looking into a slot gives.
-pub fn put_looked(out: &mut [u64; 15], l: Looked) -> u64
+pub fn put_looked(out: &mut [u64; 15], l: Result<Option<Record>, Refusal>) -> u64
     ensures answer { result ≡ looked_code l }
     ensures words { out.new ≡ looked_words l out.old }
 {
     match l {
-        Looked::Refused(x) => refusal::number(x),
-        Looked::Slot(s) => {
+        Err(x) => refusal::number(x),
+        Ok(s) => {
             put_seen(out, s);
             0
         }
@@ -88,8 +85,8 @@ pub fn put_ranking(out: &mut [u64; 45], x: Ranking) -> u64
     let outcome = x.outcome;
     let list = x.list;
     match outcome {
-        Outcome::Refused(y) => refusal::answer(y),
-        Outcome::Done => {
+        Err(y) => refusal::answer(y),
+        Ok(()) => {
             *out = crate::candidates::ranked_words(list);
             0
         }
@@ -97,13 +94,13 @@ pub fn put_ranking(out: &mut [u64; 45], x: Ranking) -> u64
 }
 
 // What deciding gives.
-pub fn put_decided(out: &mut [u64; 1], a: Answer) -> u64
+pub fn put_decided(out: &mut [u64; 1], a: Result<Decision, Refusal>) -> u64
     ensures answer { result ≡ decided_code a }
     ensures words { out.new ≡ decided_words a out.old }
 {
     match a {
-        Answer::Refused(x) => refusal::number(x),
-        Answer::Decided(d) => {
+        Err(x) => refusal::number(x),
+        Ok(d) => {
             *out = [election::code(d) as u64];
             0
         }
@@ -111,17 +108,17 @@ pub fn put_decided(out: &mut [u64; 1], a: Answer) -> u64
 }
 
 // Whom the clock follows: 1 and the parent, or zeros where our own clock leads.
-pub fn put_leader(out: &mut [u64; 12], x: Leader) -> u64
+pub fn put_leader(out: &mut [u64; 12], x: Result<Option<Candidate>, Refusal>) -> u64
     ensures answer { result ≡ leader_code x }
     ensures words { out.new ≡ leader_words x out.old }
 {
     match x {
-        Leader::Refused(y) => refusal::number(y),
-        Leader::Ours => {
+        Err(y) => refusal::number(y),
+        Ok(None) => {
             *out = [0; 12];
             0
         }
-        Leader::Master(c) => {
+        Ok(Some(c)) => {
             *out = crate::candidates::found_words(c);
             0
         }

@@ -3,9 +3,9 @@
 ghost use Rattle.std.specs.Prelude.{◌≡◌, ◌+◌, ◌≤◌, length};
 ghost use Rattle.candidate_words.specs.Candidates.{grandmaster_at, identity_at, candidate_at, ranked_of, set_of, candidate_words, found_words, ranked_words, asked_code, asked_words, best_of};
 
-use decide::{DataSet, Erbest};
+use refusal::Refusal;
+use decide::DataSet;
 use rank::{Candidate, Grandmaster, PortIdentity, Ranked};
-use senders::Asked;
 
 // The grandmaster in the six words from `b` on.
 pub fn grandmaster_at(w: &[u64], b: usize) -> Grandmaster
@@ -81,13 +81,13 @@ pub fn set_of(w: &[u64; 11]) -> DataSet
 }
 
 // A port's best in a word, 0 where there is none, and a candidate.
-pub fn best_of(w: &[u64; 12]) -> Erbest
+pub fn best_of(w: &[u64; 12]) -> Option<Candidate>
     ensures { result ≡ best_of w.now }
 {
     if w[0] == 0 {
-        return Erbest::Absent;
+        return None;
     }
-    Erbest::Present(candidate_at(w, 1))
+    Some(candidate_at(w, 1))
 }
 
 // A candidate in eleven words.
@@ -180,17 +180,17 @@ pub fn ranked_words(r: Ranked) -> [u64; 45]
 }
 
 // What asking for a candidate gives: 1 and the candidate, or zeros; a refusal leaves the words.
-pub fn put_asked(out: &mut [u64; 12], a: Asked) -> u64
+pub fn put_asked(out: &mut [u64; 12], a: Result<Option<Candidate>, Refusal>) -> u64
     ensures answer { result ≡ asked_code a }
     ensures words { out.new ≡ asked_words a out.old }
 {
     match a {
-        Asked::Refused(x) => refusal::number(x),
-        Asked::Absent => {
+        Err(x) => refusal::number(x),
+        Ok(None) => {
             *out = [0; 12];
             0
         }
-        Asked::Found(c) => {
+        Ok(Some(c)) => {
             *out = found_words(c);
             0
         }

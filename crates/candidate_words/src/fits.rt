@@ -3,10 +3,9 @@
 ghost use Rattle.std.specs.Prelude.{◌≡◌, ◌+◌, ◌*◌, ◌≤◌, ◌<◌, length};
 ghost use Rattle.candidate_words.specs.Fits.{grandmaster_fits, candidate_fits, slot_fits, list_fits, set_fits, best_fits, outcome_fitted, ranking_fitted, answer_fitted, leader_fitted};
 
-use decide::Answer;
-use election::Leader;
-use rank::Ranking;
-use refusal::{Outcome, Refusal};
+use decide::Decision;
+use rank::{Candidate, Ranking};
+use refusal::Refusal;
 
 // The six words of a grandmaster from `b` on.
 pub fn grandmaster_fits(w: &[u64], b: usize) -> bool
@@ -69,15 +68,15 @@ pub fn best_fits(w: &[u64; 12]) -> bool
 }
 
 // What a call answers whose words may not fit: 18 where they do not, unless the call itself refuses.
-fn outcome_fitted(x: Outcome, fits: bool) -> Outcome
+fn outcome_fitted(x: Result<(), Refusal>, fits: bool) -> Result<(), Refusal>
     ensures { result ≡ outcome_fitted fits x }
 {
     if fits {
         return x;
     }
     match x {
-        Outcome::Refused(_) => x,
-        Outcome::Done => Outcome::Refused(Refusal::Field),
+        Err(_) => x,
+        Ok(()) => Err(Refusal::Field),
     }
 }
 
@@ -94,28 +93,28 @@ pub fn ranking_fitted(x: Ranking, fits: bool) -> Ranking
 }
 
 // The same of deciding.
-pub fn answer_fitted(x: Answer, fits: bool) -> Answer
+pub fn answer_fitted(x: Result<Decision, Refusal>, fits: bool) -> Result<Decision, Refusal>
     ensures { result ≡ answer_fitted fits x }
 {
     if fits {
         return x;
     }
     match x {
-        Answer::Refused(_) => x,
-        Answer::Decided(_) => Answer::Refused(Refusal::Field),
+        Err(_) => x,
+        Ok(_) => Err(Refusal::Field),
     }
 }
 
 // The same of asking for the parent.
-pub fn leader_fitted(x: Leader, fits: bool) -> Leader
+pub fn leader_fitted(x: Result<Option<Candidate>, Refusal>, fits: bool) -> Result<Option<Candidate>, Refusal>
     ensures { result ≡ leader_fitted fits x }
 {
     if fits {
         return x;
     }
     match x {
-        Leader::Refused(_) => x,
-        Leader::Ours => Leader::Refused(Refusal::Field),
-        Leader::Master(_) => Leader::Refused(Refusal::Field),
+        Err(_) => x,
+        Ok(None) => Err(Refusal::Field),
+        Ok(Some(_)) => Err(Refusal::Field),
     }
 }

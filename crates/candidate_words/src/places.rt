@@ -11,7 +11,7 @@ ghost use Rattle.candidate_words.specs.Runs.{run_of};
 ghost use Rattle.candidate_words.specs.Answers.{ranking_words};
 ghost use Rattle.candidate_words.specs.Places.{lower_of, candidate_of, list_of, Fit, Inside, row_of, checked_of, words_at, eight_of, unmoved_of, Tried, merged_of, Merged};
 
-use refusal::{Outcome, Refusal};
+use refusal::Refusal;
 
 // A ranked list holds at most so many.
 const PLACES: usize = 4;
@@ -110,26 +110,26 @@ fn fill(run: &[[u64; 11]], p: Places, from: usize, to: usize) -> Places
 }
 
 // What ranking a run answers: 17 where it is too long, 8 where a port is none of the clock's, then 18 where a word does not fit.
-fn checked(run: &[[u64; 11]]) -> Outcome
+fn checked(run: &[[u64; 11]]) -> Result<(), Refusal>
     ensures { result ≡ checked_of run.now }
 {
     let n = run.len();
     if MOST < n {
-        return Outcome::Refused(Refusal::Many);
+        return Err(Refusal::Many);
     }
     let mut whole = true;
     let mut i: usize = 0;
     while i < n {
         if !refusal::is_port(words::port_of(run[i][9])) {
-            return Outcome::Refused(Refusal::Port);
+            return Err(Refusal::Port);
         }
         whole = whole & crate::fits::one_fits(&run[i]);
         i += 1;
     }
     if whole {
-        return Outcome::Done;
+        return Ok(());
     }
-    Outcome::Refused(Refusal::Field)
+    Err(Refusal::Field)
 }
 
 // The words at place `k` of four, zeros where it is not used.
@@ -209,8 +209,8 @@ pub fn rank_run(run: &[[u64; 11]], out: &mut [u64; 45]) -> u64
 {
     let x = checked(run);
     match x {
-        Outcome::Refused(y) => refusal::answer(y),
-        Outcome::Done => {
+        Err(y) => refusal::answer(y),
+        Ok(()) => {
             let p = fill(run, none(), 0, run.len());
             put(out, run, p);
             0

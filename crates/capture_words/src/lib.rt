@@ -7,7 +7,7 @@ ghost use Rattle.pcap.specs.File.{is_packet_head};
 ghost use Rattle.capture_words.specs.Captures.{form_words, unit_by, form_by, head_check, form_after, packet_check, packet_after};
 
 use pcap::Form;
-use refusal::{Outcome, Refusal};
+use refusal::Refusal;
 
 // A form in words: 1 where the lowest octet of a number comes first, and the nanoseconds of a count.
 pub const FORM: usize = 2;
@@ -52,7 +52,7 @@ pub fn put_form(form: &mut [u64; FORM], head: &[u8; pcap::HEAD]) -> u64
 {
     let is = pcap::form_of(&head[..]);
     if !pcap::is_head(is, &head[..]) {
-        return refusal::code(Outcome::Refused(Refusal::Pcap));
+        return refusal::code(Err(Refusal::Pcap));
     }
     *form = words_of(is);
     0
@@ -74,7 +74,7 @@ pub fn put_packet(packet: &mut [u64; PACKET], form: &[u64; FORM], head: &[u8; pc
 {
     let is = form_by(form);
     if !is_sound(is, head) {
-        return refusal::code(Outcome::Refused(Refusal::Pcap));
+        return refusal::code(Err(Refusal::Pcap));
     }
     let t = pcap::time(is, &head[..]);
     let stored = pcap::stored(is, &head[..]);

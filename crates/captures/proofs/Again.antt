@@ -1,5 +1,6 @@
 -- A TRACE THAT REPLAY ACCEPTS CAN BE RECORDED AGAIN, whatever its blocks were: no record is refused. Records that are cut anew, each block filled while the next
 -- record fits, come to no more blocks than they stood in, so that the numbers are enough for them.
+use Rattle.std.specs.Prelude.{Result, Ok}
 use Prim.Native.Nat.{ℕ, zero, suc, ◌+◌, ◌-◌, ◌≤◌, ◌<◌}
 use mathlib.Core.Path.{◌≡◌, refl, sym, ap, subst, ◌∙◌}
 use mathlib.Core.Logic.{◌⊎◌, inl, inr}
@@ -12,8 +13,6 @@ use lib.Seq.{length-take-le}
 use borrow.Author.Tests.{leb-true, le-leb}
 use Rattle.laws.proofs.Bools.{both, clash}
 use Rattle.refusal.specs.Limits.{is_port}
-use Rattle.refusal.specs.declared.Outcome.{Outcome}
-use Rattle.refusal.specs.declared.Outcome.TheVariants as outcome
 use Rattle.octets.proofs.Laws.{Octets, be_bound}
 use Rattle.block.specs.Layout.{block_octets, records_at, head_octets, Entry, number_of, count_of, time_at, port_at, length_at, entry_at, end_at, entries_from, entries_of}
 use Rattle.block.specs.Making.{size_of}
@@ -27,6 +26,7 @@ use Rattle.playback.proofs.Exactly.{accepts_is}
 use Rattle.exporting.specs.Exporting.{records_of}
 use Rattle.exporting.proofs.Few.{AllOctets, blocks_octets}
 use Rattle.importing.specs.Importing.{or_else, records_check, fresh_words}
+use Rattle.refusal.specs.declared.Refusal.{Refusal}
 
 -- ---- WHERE A RECORDING IS, beside the trace whose records it is handed: the trace is in its block j, counted from 1, of whose room x octets are used. The
 -- recording has opened no more blocks, and where it has opened as many, its open one is no fuller.
@@ -57,12 +57,12 @@ module _ (j x : ℕ) (ws : List ℕ) (e : Entry) (some : 0 < j) (few : j ≤ 429
   place true f = inl f
   place false f = inr (omega (arith, new_block f))
 
-  pub is_taken : record_check ws e ≡ outcome.Done
+  pub is_taken : record_check ws e ≡ Ok tt
   is_taken =
       is_done_lem ws e (record { port = port; short = omega arith; later = later; place = place (fits ws e) refl })
 
   words_are : words_after ws e ≡ words_with ws e
-  words_are = ap (λ (o : Outcome). lent_by o ws (words_with ws e)) is_taken
+  words_are = ap (λ (o : Result (Unit {0}) Refusal). lent_by o ws (words_with ws e)) is_taken
 
   behind_by : (f : Bool) → fits ws e ≡ f → Behind j (x + size_of e) (words_with ws e)
   behind_by true f =
@@ -95,11 +95,11 @@ module _ (j : ℕ) (some : 0 < j) (few : j ≤ 4294967296) (s : List ℕ) (whole
 
   -- what is left to do behind them: the others are taken by whatever words are no further than this block, behind its last time
   abbrev Then : ℕ → Type 0
-  Then last = (ws : List ℕ) (x : ℕ) → Behind j x ws → last_of ws ≡ last → records_check ws rest ≡ outcome.Done
+  Then last = (ws : List ℕ) (x : ℕ) → Behind j x ws → last_of ws ≡ last → records_check ws rest ≡ Ok tt
 
   entries_taken : (n at : ℕ) (ws : List ℕ) → records_at ≤ at → laid_from n s at ≡ true → Behind j (at - records_at) ws
       → (last : ℕ) → last_of ws ≡ last → is_in_order last (entries_from n s at) ≡ true → Then (lastTime last (entries_from n s at))
-      → records_check ws (entries_from n s at ++ rest) ≡ outcome.Done
+      → records_check ws (entries_from n s at ++ rest) ≡ Ok tt
   unfolding laid_from entries_from is_in_order lastTime records_check
   entries_taken zero at ws h l b last is order more = more ws (at - records_at) b is
   entries_taken (suc n) at ws h l b last is order more =
@@ -115,7 +115,7 @@ module _ (j : ℕ) (some : 0 < j) (few : j ≤ 4294967296) (s : List ℕ) (whole
       let here : x + size_of e ≡ end_at s at - records_at = omega arith in
       let taken = is_taken j x ws e some few b m.0 later room in
       let still = subst (λ (y : ℕ). Behind j y (words_after ws e)) here (still_behind j x ws e some few b m.0 later room) in
-      ap (λ (o : Outcome). or_else o (records_check (words_after ws e) (entries_from n s (end_at s at) ++ rest))) taken
+      ap (λ (o : Result (Unit {0}) Refusal). or_else o (records_check (words_after ws e) (entries_from n s (end_at s at) ++ rest))) taken
       ∙ entries_taken n (end_at s at) (words_after ws e) (omega arith) m.1 still (time_at s at) (last_is j x ws e some few b m.0 later room) t.1 more
 
 -- ---- ALL BLOCKS
@@ -138,7 +138,7 @@ passed r s e =
     record { is_laid_lem = l.0; is_next_lem = leb-true _ _ m.0; is_timed = m.1 }
 
 blocks_taken : (bs : List (List ℕ)) (r : Reader) (j x : ℕ) (ws : List ℕ) → AllOctets bs → accepts_all r bs ≡ true → j ≤ r.next → Behind j x ws → last_of ws ≡ r.last
-    → records_check ws (entries_of_all bs) ≡ outcome.Done
+    → records_check ws (entries_of_all bs) ≡ Ok tt
 unfolding accepts_all entries_of_all records_check
 blocks_taken [] r j x ws o e h b is = refl
 blocks_taken (s ∷ bs) r j x ws o e h b is =
@@ -151,7 +151,7 @@ blocks_taken (s ∷ bs) r j x ws o e h b is =
     (λ vs y c at. blocks_taken bs (reader_after r s) (suc j) y vs o.1 k.1 (omega (arith, p.is_next_lem)) c at)
 
 -- EVERY RECORD OF A TRACE is taken by a fresh recording
-pub taken_again : (s : List ℕ) → Octets s → is_trace s ≡ true → records_check fresh_words (records_of s) ≡ outcome.Done
+pub taken_again : (s : List ℕ) → Octets s → is_trace s ≡ true → records_check fresh_words (records_of s) ≡ Ok tt
 taken_again s o e =
     blocks_taken _ fresh_reader 0 0 fresh_words (blocks_octets s o) e (omega arith)
     (record { next = omega arith; end = λ is. omega arith; begun = λ h. absurd (omega arith) })

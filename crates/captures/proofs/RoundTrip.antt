@@ -1,5 +1,6 @@
 -- THERE AND BACK (02, (vi): "Importing an exported trace under its own port gives back its records."): of every trace that export accepts, the capture that it
 -- writes is read again, nothing in it is refused but for too little room, and the records are those of the trace.
+use Rattle.std.specs.Prelude.{Result, Ok, Err}
 use Prim.Native.Nat.{ℕ, zero, suc, ◌+◌, ◌*◌, ◌/◌, ◌%◌, ◌<◌}
 use mathlib.Core.Path.{◌≡◌, refl, sym, ap, ◌∙◌}
 use mathlib.Core.Logic.{inr}
@@ -14,12 +15,9 @@ use Rattle.laws.proofs.Bools.{both}
 use Rattle.refusal.specs.Choice.{pick, refuse}
 use Rattle.refusal.specs.Limits.{is_port, second_nanos}
 use Rattle.refusal.specs.declared.Refusal.TheVariants.{Block, Export, Room}
-use Rattle.refusal.specs.declared.Outcome.TheVariants as outcome
 use Rattle.octets.specs.Be.{be}
 use Rattle.octets.proofs.Laws.{Octets, octets_take, octets_drop, be_bound}
 use Rattle.stores.specs.Stores.{over}
-use Rattle.writer.specs.declared.writing.Written.{Written}
-use Rattle.writer.specs.declared.writing.Written.TheVariants as written
 use Rattle.writer.specs.Writing.{lent_by}
 use Rattle.block.specs.Layout.{block_octets, records_at, head_octets, Entry, count_of, length_at, entry_at, end_at, entries_from}
 use Rattle.block.specs.Making.{EntryFits, All}
@@ -36,10 +34,11 @@ use Rattle.exporting.proofs.Few.{AllOctets, blocks_octets}
 use Rattle.captures.proofs.Again.{taken_again}
 use Rattle.importing.proofs.Tapes.{first_done, all_kept}
 use Rattle.importing.specs.Importing.{is_ptp, entry_by, taken_of, records_check, fresh_words, trace_by, records_in, import_of}
+use Rattle.refusal.specs.declared.Refusal.{Refusal}
 
 -- ---- RECORDS THAT CAN BE WRITTEN
 -- what is recorded is short
-pub all_short : (es : List Entry) (ws : List ℕ) → records_check ws es ≡ outcome.Done → All IsShort es
+pub all_short : (es : List Entry) (ws : List ℕ) → records_check ws es ≡ Ok tt → All IsShort es
 unfolding records_check
 all_short [] ws e = tt
 all_short (x ∷ es) ws e =
@@ -130,7 +129,7 @@ module _ (s : List ℕ) (o : Octets s) (accepted : is_trace s ≡ true) (p : ℕ
 
   -- so importing it refuses nothing, where the port is one and the room is enough
   pub import_again : (room : ℕ) → is_port p ≡ true
-      → import_of room p file ≡ refuse (ltb room (length (trace_by es))) (written.Refused Room) (written.Octets (length (trace_by es)))
+      → import_of room p file ≡ refuse (ltb room (length (trace_by es))) (Err Room) (Ok (length (trace_by es)))
   unfolding import_of refuse
   import_again room port =
       rw (export_accepted, port, records_again, taken_again s o accepted)
@@ -149,16 +148,16 @@ module _ (s : List ℕ) (o : Octets s) (accepted : is_trace s ≡ true) (p : ℕ
 
 -- ---- WHAT EXPORT WROTE
 -- the records that recording takes are of ports that there are
-own_port : (e : Entry) (es : List Entry) → records_check fresh_words (e ∷ es) ≡ outcome.Done → is_port e.port ≡ true
+own_port : (e : Entry) (es : List Entry) → records_check fresh_words (e ∷ es) ≡ Ok tt → is_port e.port ≡ true
 unfolding records_check
 own_port e es h = (done fresh_words e (first_done (record_check fresh_words e) (records_check (words_after fresh_words e) es) h).0).port
 
-port_of_some : (es : List Entry) → records_check fresh_words es ≡ outcome.Done → 0 < length es → is_port (port_of es) ≡ true
+port_of_some : (es : List Entry) → records_check fresh_words es ≡ Ok tt → 0 < length es → is_port (port_of es) ≡ true
 port_of_some [] h some = absurd (omega arith)
 port_of_some (e ∷ es) h some = own_port e es h
 
 accepted_by : (trace can small : Bool) (n m : ℕ)
-    → refuse (not trace) (written.Refused Block) (refuse (not can) (written.Refused Export) (refuse small (written.Refused Room) (written.Octets m))) ≡ written.Octets n
+    → refuse (not trace) (Err Block) (refuse (not can) (Err Export) (refuse small (Err Room) (Ok m))) ≡ Ok n
     → (trace ≡ true) × ((can ≡ true) × (m ≡ n))
 unfolding refuse
 accepted_by true true true n m e = absurd (let z : ◌≡◌ {A = ℕ} 0 1 = cc in omega arith)
@@ -167,7 +166,7 @@ accepted_by true false small n m e = absurd (let z : ◌≡◌ {A = ℕ} 0 1 = c
 accepted_by false can small n m e = absurd (let z : ◌≡◌ {A = ℕ} 0 1 = cc in omega arith)
 
 -- a trace of octets, and a buffer into which it was written in n octets
-module _ (s : List ℕ) (o : Octets s) (out : List ℕ) (n : ℕ) (wrote : export_of (length out) s ≡ written.Octets n) where
+module _ (s : List ℕ) (o : Octets s) (out : List ℕ) (n : ℕ) (wrote : export_of (length out) s ≡ Ok n) where
   by_tests : (is_trace s ≡ true) × ((can_write s ≡ true) × (length (capture_of (records_of s)) ≡ n))
   unfolding export_of
   by_tests = accepted_by (is_trace s) (can_write s) (ltb (length out) (length (capture_of (records_of s)))) n (length (capture_of (records_of s))) wrote
@@ -175,7 +174,7 @@ module _ (s : List ℕ) (o : Octets s) (out : List ℕ) (n : ℕ) (wrote : expor
   -- what stands in the buffer's first n octets ..
   pub capture_first : take n (out_after_export out s) ≡ capture_of (records_of s)
   capture_first =
-      ap (λ (w : Written). take n (lent_by w out (over out 0 (capture_of (records_of s))))) wrote
+      ap (λ (w : Result ℕ Refusal). take n (lent_by w out (over out 0 (capture_of (records_of s))))) wrote
       ∙ take_at (capture_of (records_of s)) (drop (0 + length (capture_of (records_of s))) out) n by_tests.1.1
 
   -- .. IS A CAPTURE, AND READ ON THE PORT OF THE TRACE'S FIRST RECORD IT GIVES THE RECORDS BACK

@@ -1,11 +1,9 @@
 // The exchange of the slave port once an hour: Sync and Follow_Up out of which the engine takes the origin time, a
 // Delay_Req and its answer, and what they give. What the fibre and our oscillator do is made up; the delay and the offset
 // are the engine's.
+use refusal::Refusal;
 use crate::{MAGIC, OURS, sender, written};
-use delay::{
-    Asymmetry, Corrections, Exchange, FineStamp, Latencies, Measurement, Offset, ScaledNs,
-    ScaledPs, Stamp, Stamps,
-};
+use delay::{Asymmetry, Corrections, Exchange, FineStamp, Latencies, Offset, ScaledNs, ScaledPs, Stamp, Stamps};
 use page::tally;
 use page::tally::COUNTS;
 use std::io;
@@ -103,7 +101,7 @@ fn latencies() -> Latencies {
 }
 
 // The hour's delay and offset from a master.
-fn measured(master: u64, h: u64) -> Measurement {
+fn measured(master: u64, h: u64) -> Result<(ScaledNs, Offset), Refusal> {
     delay::measure(Exchange {
         stamps: stamps(master, h),
         corrections: Corrections {
@@ -131,10 +129,10 @@ fn near(x: Offset) -> u64 {
     }
 }
 
-fn offset_of(m: Measurement) -> u64 {
+fn offset_of(m: Result<(ScaledNs, Offset), Refusal>) -> u64 {
     match m {
-        Measurement::Measured(_, x) => near(x),
-        Measurement::Refused(_) => page::NONE,
+        Ok((_, x)) => near(x),
+        Err(_) => page::NONE,
     }
 }
 
@@ -170,14 +168,14 @@ offset from the parent at each hour's end, ns
 }
 
 // The day's last delay and offset, in a line.
-fn last_told<W: Write>(out: &mut W, m: Measurement) -> io::Result<()> {
+fn last_told<W: Write>(out: &mut W, m: Result<(ScaledNs, Offset), Refusal>) -> io::Result<()> {
     match m {
-        Measurement::Measured(d, x) => page::tell(
+        Ok((d, x)) => page::tell(
             out,
             b"delay%s ns, offset%s ns\n",
             &[octets::bits64(d.0), near(x)],
         ),
-        Measurement::Refused(x) => page::tell(out, b"refused: %n\n", &[refusal::number(x)]),
+        Err(x) => page::tell(out, b"refused: %n\n", &[refusal::number(x)]),
     }
 }
 

@@ -1,6 +1,5 @@
 // The day's trace: what the ports hear is recorded as it arrives, and each block goes to a file when it is closed. The program keeps the recording, its open
 // block and its words.
-use recording::Recorded;
 use std::env::Env;
 use std::fs::Files;
 use std::io::Write;
@@ -36,9 +35,9 @@ pub fn record<F: Write>(
 ) -> io::Result<()> {
     let mut out = [0u8; block::OCTETS];
     match recording::record(opened, tape, port, t, octets, &mut out) {
-        Recorded::Refused(_) => Ok(()),
-        Recorded::Kept => Ok(()),
-        Recorded::Closed => written(file, &out),
+        Err(_) => Ok(()),
+        Ok(false) => Ok(()),
+        Ok(true) => written(file, &out),
     }
 }
 

@@ -1,5 +1,6 @@
 -- WHAT STANDS BEFORE THE PLACE OF A 6 IS SOUND: the same octets with messageLength set to that place are not refused with 6 again, nor
 -- with any other number but 7, for a known message of a wrong size that stands before it.
+use Rattle.std.specs.Prelude.{Result, Ok, Err}
 use Prim.Native.Nat.{ℕ, suc, ◌+◌, ◌-◌, ◌≤◌}
 use mathlib.Core.Path.{◌≡◌, refl, sym, ap, ◌∙◌}
 use mathlib.Core.List.{List}
@@ -15,12 +16,10 @@ use Rattle.refusal.specs.Refusal.{number_of}
 use Rattle.refusal.proofs.Choice.{passed}
 use Rattle.refusal.specs.declared.Refusal.{Refusal}
 use Rattle.refusal.specs.declared.Refusal.TheVariants.{Short, Version, «Type», Length, Stamp, Tlv}
-use Rattle.refusal.specs.declared.Outcome.{Outcome}
-use Rattle.refusal.specs.declared.Outcome.TheVariants.{Done, Refused}
 use Rattle.tlv.specs.Walk.{BreaksAt}
 use Rattle.tlv.specs.Faults.{whole, misfit, fault_of}
 use Rattle.tlv.specs.declared.walk.Fault.{Fault}
-use Rattle.tlv.specs.declared.walk.Fault.TheVariants.{Sound, Broken, Misfit}
+use Rattle.tlv.specs.declared.walk.Fault.TheVariants.{Broken, Misfit}
 use Rattle.tlv.proofs.FaultLaws.{broken_breaks}
 use Rattle.tlv.proofs.Reached.{reached_inside, whole_cut}
 use Rattle.message.specs.Fields.{type_of, length_of, fixed_size, tail_of}
@@ -31,29 +30,29 @@ use Rattle.message.proofs.Laws.{size_least, no_refusal}
 use Rattle.message.proofs.Exactly.{stamped}
 
 -- the number of a refusal, 0 where nothing is refused
-abbrev number_in : Outcome → ℕ
-number_in Done = 0
-number_in (Refused x) = number_of x
+abbrev number_in : Result (Unit {0}) Refusal → ℕ
+number_in (Ok tt) = 0
+number_in (Err x) = number_of x
 
-other : {x : Refusal} {p : ℕ} → (number_of x ≡ 6 → ⊥) → Refused x ≡ Refused (Tlv p) → ⊥
+other : {x : Refusal} {p : ℕ} → (number_of x ≡ 6 → ⊥) → ◌≡◌ {A = Result (Unit {0}) Refusal} (Err x) (Err (Tlv p)) → ⊥
 other h e = h (ap number_in e)
 
 -- a 6 comes from the tail, and its place is where that breaks off
-six : (size p : ℕ) (x : Fault) → fault_check size x ≡ Refused (Tlv p) → (k : ℕ) × (x ≡ Broken k) × (size + k ≡ p)
-six size p Sound e = absurd (let z = ap number_in e in omega arith)
-six size p (Broken k) e = (k, refl, cc)
-six size p (Misfit k) e = absurd (let z = ap number_in e in omega arith)
+six : (size p : ℕ) (x : Result (Unit {0}) Fault) → fault_check size x ≡ Err (Tlv p) → (k : ℕ) × (x ≡ Err (Broken k)) × (size + k ≡ p)
+six size p (Ok tt) e = absurd (let z = ap number_in e in omega arith)
+six size p (Err (Broken k)) e = (k, refl, cc)
+six size p (Err (Misfit k)) e = absurd (let z = ap number_in e in omega arith)
 
-module _ (magic : ℕ) (s : List ℕ) {p : ℕ} (e : check_of magic s ≡ Refused (Tlv p)) where
-  is_stamped : IsStamped s × (fault_check (fixed_size (type_of s)) (fault_of magic (tail_of s)) ≡ Refused (Tlv p))
+module _ (magic : ℕ) (s : List ℕ) {p : ℕ} (e : check_of magic s ≡ Err (Tlv p)) where
+  is_stamped : IsStamped s × (fault_check (fixed_size (type_of s)) (fault_of magic (tail_of s)) ≡ Err (Tlv p))
   unfolding check_of
   is_stamped =
-      let p1 = passed (Refused Short) _ _ _ (other (λ z. omega arith)) e in
-      let p2 = passed (Refused Version) _ _ _ (other (λ z. omega arith)) p1.1 in
-      let p3 = passed (Refused «Type») _ _ _ (other (λ z. omega arith)) p2.1 in
-      let p4 = passed (Refused Length) _ _ _ (other (λ z. omega arith)) p3.1 in
-      let p5 = passed (Refused Short) _ _ _ (other (λ z. omega arith)) p4.1 in
-      let p6 = passed (Refused Stamp) _ _ _ (other (λ z. omega arith)) p5.1 in
+      let p1 = passed (Err Short) _ _ _ (other (λ z. omega arith)) e in
+      let p2 = passed (Err Version) _ _ _ (other (λ z. omega arith)) p1.1 in
+      let p3 = passed (Err «Type») _ _ _ (other (λ z. omega arith)) p2.1 in
+      let p4 = passed (Err Length) _ _ _ (other (λ z. omega arith)) p3.1 in
+      let p5 = passed (Err Short) _ _ _ (other (λ z. omega arith)) p4.1 in
+      let p6 = passed (Err Stamp) _ _ _ (other (λ z. omega arith)) p5.1 in
       (((((((ltb-false _ _ p1.0, eqb-true _ _ (not-false _ p2.0)), eqb-false _ _ p3.0), ltb-false _ _ p4.0), ltb-false _ _ p5.0), p6.0), p6.1))
 
   abbrev size : ℕ
@@ -63,7 +62,7 @@ module _ (magic : ℕ) (s : List ℕ) {p : ℕ} (e : check_of magic s ≡ Refuse
   cut = with_length p s
 
   -- where the walk breaks off
-  at : (k : ℕ) × (fault_of magic (tail_of s) ≡ Broken k) × (size + k ≡ p)
+  at : (k : ℕ) × (fault_of magic (tail_of s) ≡ Err (Broken k)) × (size + k ≡ p)
   at = six size p (fault_of magic (tail_of s)) is_stamped.1
 
   breaks : BreaksAt (tail_of s) at.0
@@ -108,7 +107,7 @@ module _ (magic : ℕ) (s : List ℕ) {p : ℕ} (e : check_of magic s ≡ Refuse
       (((((rw cut_lent z.0.0.0.0.0, z.0.0.0.0.1), z.0.0.0.1), rw cut_length least), rw (cut_length, cut_lent) lent), rw cut_stamp z.1)
 
   -- the tail that is left is whole, so nothing is left to refuse but a misfit
-  seven : {x : Refusal} → fault_check size (fault_of magic (tail_of cut)) ≡ Refused x → number_of x ≡ 7
+  seven : {x : Refusal} → fault_check size (fault_of magic (tail_of cut)) ≡ Err x → number_of x ≡ 7
   unfolding fault_of
   seven {x} f = by (eqb (misfit magic (tail_of cut) 0) (length (tail_of cut))) refl
     where
@@ -119,5 +118,5 @@ module _ (magic : ℕ) (s : List ℕ) {p : ℕ} (e : check_of magic s ≡ Refuse
       by true t = absurd (no_refusal x (sym (rw (is_whole, t) at f)))
       by false t = sym (ap number_in (rw (is_whole, t) at f))
 
-  pub cut_at_six : {x : Refusal} → check_of magic cut ≡ Refused x → number_of x ≡ 7
+  pub cut_at_six : {x : Refusal} → check_of magic cut ≡ Err x → number_of x ≡ 7
   cut_at_six f = seven (sym (stamped magic cut cut_stamped) ∙ f)

@@ -1,5 +1,6 @@
 -- Each number that the calls over the tail give is given exactly when the table says, with the 3 of those that take messages
 -- of one type.
+use Rattle.std.specs.Prelude.{Option, Some, None, Ok, Err}
 use Prim.Native.Nat.{ℕ, ◌+◌}
 use mathlib.Core.Path.{◌≡◌, refl, sym, subst, ◌∙◌}
 use mathlib.Core.List.{List}
@@ -9,19 +10,13 @@ use lib.ListN.{length}
 use Rattle.refusal.specs.Choice.{pick}
 use Rattle.refusal.specs.Refusal.{code_of}
 use Rattle.tlv.specs.Wr.{suffix_in, link_in}
-use Rattle.tlv.specs.declared.wr.Suffix.{Suffix}
-use Rattle.tlv.specs.declared.wr.Suffix.TheVariants as suffix
-use Rattle.tlv.specs.declared.wr.LinkFound.{LinkFound}
-use Rattle.tlv.specs.declared.wr.LinkFound.TheVariants as found
 use Rattle.message.specs.Fields.{type_of, fixed_size, tail_of}
 use Rattle.message.specs.Reading.{check_of}
 use Rattle.contents.specs.Parts.{first_of_type, lookup_of, suffix_answer, suffix_of, link_answer, link_of}
 use Rattle.message.specs.When.{When, TakesWhen}
 use Rattle.contents.specs.Answers.{tlv_code, suffix_code, link_code}
-use Rattle.contents.specs.declared.parts.TlvRead.TheVariants as lookup
-use Rattle.contents.specs.declared.parts.SuffixRead.TheVariants as flags
-use Rattle.contents.specs.declared.parts.LinkRead.TheVariants as link
 use Rattle.message.proofs.Exactly.{told, when_told, by_code, takes_told, when_takes}
+use Rattle.tlv.specs.declared.wr.LinkMessage.{LinkMessage}
 
 module _ (magic : ℕ) (s : List ℕ) where
   -- looking up a TLV
@@ -29,9 +24,9 @@ module _ (magic : ℕ) (s : List ℕ) where
   unfolding lookup_of
   lookup_code kind =
       let p = first_of_type kind (tail_of s) in
-      by_code tlv_code lookup.Refused (λ x. refl) (check_of magic s) _ (found_zero (ltb p (length (tail_of s))) (fixed_size (type_of s) + p + 4))
+      by_code tlv_code Err (λ x. refl) (check_of magic s) _ (found_zero (ltb p (length (tail_of s))) (fixed_size (type_of s) + p + 4))
     where
-      found_zero : (b : Bool) (n : ℕ) → tlv_code (pick b (lookup.Found n) lookup.Absent) ≡ 0
+      found_zero : (b : Bool) (n : ℕ) → tlv_code (pick b (Ok (Some n)) (Ok None)) ≡ 0
       found_zero true n = refl
       found_zero false n = refl
 
@@ -42,27 +37,27 @@ module _ (magic : ℕ) (s : List ℕ) where
   when_lookup kind w = lookup_code kind ∙ when_told magic s w
 
   -- the suffix: 3 where the message is no Announce
-  suffix_zero : (x : Suffix) → suffix_code (suffix_answer x) ≡ 0
-  suffix_zero (suffix.Flags n) = refl
-  suffix_zero suffix.Absent = refl
+  suffix_zero : (x : Option ℕ) → suffix_code (suffix_answer x) ≡ 0
+  suffix_zero (Some n) = refl
+  suffix_zero None = refl
 
   pub suffix_told : TakesWhen magic 0xB s (suffix_code (suffix_of magic s))
   unfolding suffix_of
-  suffix_told = takes_told suffix_code flags.Refused (λ x. refl) magic 0xB s _ (suffix_zero (suffix_in magic (tail_of s)))
+  suffix_told = takes_told suffix_code Err (λ x. refl) magic 0xB s _ (suffix_zero (suffix_in magic (tail_of s)))
 
   pub when_suffix : {n : ℕ} → TakesWhen magic 0xB s n → suffix_code (suffix_of magic s) ≡ n
   unfolding suffix_of
-  when_suffix w = when_takes suffix_code flags.Refused (λ x. refl) magic 0xB s _ (suffix_zero (suffix_in magic (tail_of s))) w
+  when_suffix w = when_takes suffix_code Err (λ x. refl) magic 0xB s _ (suffix_zero (suffix_in magic (tail_of s))) w
 
   -- the link message: 3 where the message is no Signaling
-  link_zero : (x : LinkFound) → link_code (link_answer x) ≡ 0
-  link_zero (found.Message m) = refl
-  link_zero found.Absent = refl
+  link_zero : (x : Option LinkMessage) → link_code (link_answer x) ≡ 0
+  link_zero (Some m) = refl
+  link_zero None = refl
 
   pub link_told : TakesWhen magic 0xC s (link_code (link_of magic s))
   unfolding link_of
-  link_told = takes_told link_code link.Refused (λ x. refl) magic 0xC s _ (link_zero (link_in magic (tail_of s)))
+  link_told = takes_told link_code Err (λ x. refl) magic 0xC s _ (link_zero (link_in magic (tail_of s)))
 
   pub when_link : {n : ℕ} → TakesWhen magic 0xC s n → link_code (link_of magic s) ≡ n
   unfolding link_of
-  when_link w = when_takes link_code link.Refused (λ x. refl) magic 0xC s _ (link_zero (link_in magic (tail_of s))) w
+  when_link w = when_takes link_code Err (λ x. refl) magic 0xC s _ (link_zero (link_in magic (tail_of s))) w

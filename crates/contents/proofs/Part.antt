@@ -1,5 +1,6 @@
 -- What `lookup` hands back is the data of the first TLV of the type that the walk comes to, as a part of the message lent;
 -- nothing where the message is refused or has no such TLV.
+use Rattle.std.specs.Prelude.{Option, Some, None, Result, Ok, Err}
 use Prim.Native.Nat.{ℕ, zero, suc, ◌+◌, ◌-◌, ◌<◌, ◌≤◌}
 use mathlib.Core.Path.{◌≡◌, refl, sym, ap, subst, ◌∙◌}
 use mathlib.Core.List.{List, [], ◌∷◌}
@@ -13,8 +14,6 @@ use Rattle.octets.specs.Be.{be}
 use Rattle.octets.proofs.Laws.{be_drop, be_take}
 use Rattle.refusal.specs.Choice.{pick}
 use Rattle.refusal.specs.declared.Refusal.{Refusal}
-use Rattle.refusal.specs.declared.Outcome.{Outcome}
-use Rattle.refusal.specs.declared.Outcome.TheVariants as outcome
 use Rattle.tlv.specs.Walk.{type_at, size_at, walk_by, walk, TlvAt, FirstTlv}
 use Rattle.tlv.specs.Faults.{sought_at}
 use Rattle.tlv.specs.declared.walk.Sought.TheVariants.{OfType}
@@ -24,8 +23,6 @@ use Rattle.tlv.proofs.Reached as walked
 use Rattle.message.specs.Fields.{type_of, length_of, fixed_size, tail_of}
 use Rattle.message.specs.Reading.{check_of, by}
 use Rattle.contents.specs.Parts.{first_of_type, tail_in, data_in, lookup_of, IsWithin, data_length}
-use Rattle.contents.specs.declared.parts.TlvRead.{TlvRead}
-use Rattle.contents.specs.declared.parts.TlvRead.TheVariants.{Found, Absent, Refused}
 use Rattle.message.specs.When.{When}
 use Rattle.message.proofs.Laws.{bounded, tail_length}
 use Rattle.message.proofs.Exactly.{none_refused, when_told}
@@ -42,27 +39,27 @@ pub tail_be : (n : ℕ) (s : List ℕ) (p : ℕ) → p + n ≤ length_of s - fix
 tail_be n s p h = be_take n (length_of s - fixed_size (type_of s)) (drop (fixed_size (type_of s)) s) p h ∙ be_drop n (fixed_size (type_of s)) s p
 
 -- an answer of `lookup_of` that is no refusal was made of an accepted message
-not_refused : (o : Outcome) (x : TlvRead) {at : ℕ} → by o Refused x ≡ Found at → (o ≡ outcome.Done) × (x ≡ Found at)
-not_refused outcome.Done x e = (refl, e)
-not_refused (outcome.Refused r) x e = absurd (let z : ◌≡◌ {A = ℕ} 0 1 = cc in omega arith)
+not_refused : (o : Result (Unit {0}) Refusal) (x : Result (Option ℕ) Refusal) {at : ℕ} → by o Err x ≡ Ok (Some at) → (o ≡ Ok tt) × (x ≡ Ok (Some at))
+not_refused (Ok tt) x e = (refl, e)
+not_refused (Err r) x e = absurd (let z : ◌≡◌ {A = ℕ} 0 1 = cc in omega arith)
 
-found_by : (b : Bool) (n : ℕ) {at : ℕ} → pick b (Found n) Absent ≡ Found at → (b ≡ true) × (n ≡ at)
+found_by : (b : Bool) (n : ℕ) {at : ℕ} → pick b (Ok (Some n)) (Ok None) ≡ Ok (Some at) → (b ≡ true) × (n ≡ at)
 found_by true n e = (refl, cc)
 found_by false n e = absurd (let z : ◌≡◌ {A = ℕ} 0 1 = cc in omega arith)
 
-absent_done : (o : Outcome) (x : TlvRead) → by o Refused x ≡ Absent → (o ≡ outcome.Done) × (x ≡ Absent)
-absent_done outcome.Done x e = (refl, e)
-absent_done (outcome.Refused r) x e = absurd (let z : ◌≡◌ {A = ℕ} 0 1 = cc in omega arith)
+absent_done : (o : Result (Unit {0}) Refusal) (x : Result (Option ℕ) Refusal) → by o Err x ≡ Ok None → (o ≡ Ok tt) × (x ≡ Ok None)
+absent_done (Ok tt) x e = (refl, e)
+absent_done (Err r) x e = absurd (let z : ◌≡◌ {A = ℕ} 0 1 = cc in omega arith)
 
-absent_by : (b : Bool) (n : ℕ) → pick b (Found n) Absent ≡ Absent → b ≡ false
+absent_by : (b : Bool) (n : ℕ) → pick b (Ok (Some n)) (Ok None) ≡ Ok None → b ≡ false
 absent_by true n e = absurd (let z : ◌≡◌ {A = ℕ} 0 1 = cc in omega arith)
 absent_by false n e = refl
 
 -- a refusal is the checks'
-refused_by : (o : Outcome) (b : Bool) (n : ℕ) (x : Refusal) → by o Refused (pick b (Found n) Absent) ≡ Refused x → o ≡ outcome.Refused x
-refused_by outcome.Done true n x e = absurd (let z : ◌≡◌ {A = ℕ} 0 1 = cc in omega arith)
-refused_by outcome.Done false n x e = absurd (let z : ◌≡◌ {A = ℕ} 0 1 = cc in omega arith)
-refused_by (outcome.Refused r) b n x e = cc
+refused_by : (o : Result (Unit {0}) Refusal) (b : Bool) (n : ℕ) (x : Refusal) → by o Err (pick b (Ok (Some n)) (Ok None)) ≡ Err x → o ≡ Err x
+refused_by (Ok tt) true n x e = absurd (let z : ◌≡◌ {A = ℕ} 0 1 = cc in omega arith)
+refused_by (Ok tt) false n x e = absurd (let z : ◌≡◌ {A = ℕ} 0 1 = cc in omega arith)
+refused_by (Err r) b n x e = cc
 
 module _ (magic kind : ℕ) (s : List ℕ) where
   -- where the TLV stands in the tail
@@ -79,7 +76,7 @@ module _ (magic kind : ℕ) (s : List ℕ) where
     -- FOUND MEANS REACHED: it is the first TLV of that type that the walk over the tail comes to
     pub first_tlv : FirstTlv (sought_at (OfType kind) (tail_of s)) (tail_of s) (at - 4 - fixed_size (type_of s))
 
-  pub found_part : {at : ℕ} → lookup_of magic kind s ≡ Found at → Part at
+  pub found_part : {at : ℕ} → lookup_of magic kind s ≡ Ok (Some at) → Part at
   unfolding lookup_of data_in tail_in place
   found_part {at} e =
       let d = not_refused (check_of magic s) _ e in
@@ -107,13 +104,13 @@ module _ (magic kind : ℕ) (s : List ℕ) where
       }
 
   -- of a message that is read the first TLV of the type is found
-  pub first_is_found : {p : ℕ} → When magic s 0 → FirstTlv (sought_at (OfType kind) (tail_of s)) (tail_of s) p → lookup_of magic kind s ≡ Found (fixed_size (type_of s) + p + 4)
+  pub first_is_found : {p : ℕ} → When magic s 0 → FirstTlv (sought_at (OfType kind) (tail_of s)) (tail_of s) p → lookup_of magic kind s ≡ Ok (Some (fixed_size (type_of s) + p + 4))
   unfolding lookup_of
   first_is_found {p} w f =
       rw (none_refused (check_of magic s) (when_told magic s w), first_is (sought_at (OfType kind) (tail_of s)) (tail_of s) f, lt-ltb p (length (tail_of s)) f.at.inside)
 
   -- ABSENT MEANS THAT THERE IS NONE: where no TLV of the type is found, none of the tail has it
-  pub absent_none : lookup_of magic kind s ≡ Absent → (p : ℕ) → TlvAt (tail_of s) p → type_at (tail_of s) p ≡ kind → ⊥
+  pub absent_none : lookup_of magic kind s ≡ Ok None → (p : ℕ) → TlvAt (tail_of s) p → type_at (tail_of s) p ≡ kind → ⊥
   unfolding lookup_of place
   absent_none e p v t =
       let d = absent_done (check_of magic s) _ e in
@@ -124,19 +121,19 @@ module _ (magic kind : ℕ) (s : List ℕ) where
       eqb-false _ _ (walked.absent_none (sought_at (OfType kind) (tail_of s)) (tail_of s) k p v) t
 
   -- and where none has it, a message that is read says so
-  pub none_absent : When magic s 0 → ((p : ℕ) → TlvAt (tail_of s) p → type_at (tail_of s) p ≡ kind → ⊥) → lookup_of magic kind s ≡ Absent
+  pub none_absent : When magic s 0 → ((p : ℕ) → TlvAt (tail_of s) p → type_at (tail_of s) p ≡ kind → ⊥) → lookup_of magic kind s ≡ Ok None
   unfolding lookup_of
   none_absent w n =
       let e = walked.none_absent (sought_at (OfType kind) (tail_of s)) (tail_of s) (λ p v. ne_eqb _ _ (n p v)) in
       rw (none_refused (check_of magic s) (when_told magic s w), e, le-ltb (length (tail_of s)) (length (tail_of s)) (omega arith))
 
   -- it is empty if refused
-  pub empty_refused : {x : Refusal} → check_of magic s ≡ outcome.Refused x → data_in magic kind s ≡ []
+  pub empty_refused : {x : Refusal} → check_of magic s ≡ Err x → data_in magic kind s ≡ []
   unfolding data_in tail_in walk walk_by
   empty_refused e = rw e
 
   -- it is empty if absent
-  pub empty_absent : lookup_of magic kind s ≡ Absent → data_in magic kind s ≡ []
+  pub empty_absent : lookup_of magic kind s ≡ Ok None → data_in magic kind s ≡ []
   unfolding lookup_of data_in tail_in place
   empty_absent e =
       let d = absent_done (check_of magic s) _ e in
@@ -144,39 +141,39 @@ module _ (magic kind : ℕ) (s : List ℕ) where
       rw (d.0, f)
 
   -- what is found was found in an accepted message
-  found_done : {at : ℕ} → lookup_of magic kind s ≡ Found at → (check_of magic s ≡ outcome.Done) × (fixed_size (type_of s) + place + 4 ≡ at)
+  found_done : {at : ℕ} → lookup_of magic kind s ≡ Ok (Some at) → (check_of magic s ≡ Ok tt) × (fixed_size (type_of s) + place + 4 ≡ at)
   unfolding lookup_of place
   found_done {at} e =
       let d = not_refused (check_of magic s) _ e in
       (d.0, (found_by (ltb place (length (tail_of s))) (fixed_size (type_of s) + place + 4) d.1).1)
 
   -- so its data begin inside the octets, behind a length
-  pub found_within : {x : TlvRead} → x ≡ lookup_of magic kind s → IsWithin x s
+  pub found_within : {x : Result (Option ℕ) Refusal} → x ≡ lookup_of magic kind s → IsWithin x s
   found_within {x} e = cases x (sym e)
     where
-      cases : (x : TlvRead) → lookup_of magic kind s ≡ x → IsWithin x s
-      cases (Found at) e =
+      cases : (x : Result (Option ℕ) Refusal) → lookup_of magic kind s ≡ x → IsWithin x s
+      cases (Ok (Some at)) e =
           let d = found_done e in
           let h = (found_part e).inside_message in
           let l = (bounded magic s d.0).lent in
           (omega (arith, d.1), omega (arith, h, l))
-      cases Absent e = tt
-      cases (Refused x) e = tt
+      cases (Ok None) e = tt
+      cases (Err x) e = tt
 
-  refused : (x : Refusal) → lookup_of magic kind s ≡ Refused x → check_of magic s ≡ outcome.Refused x
+  refused : (x : Refusal) → lookup_of magic kind s ≡ Err x → check_of magic s ≡ Err x
   unfolding lookup_of
   refused x e =
       refused_by (check_of magic s) (ltb (first_of_type kind (tail_of s)) (length (tail_of s))) (fixed_size (type_of s) + first_of_type kind (tail_of s) + 4) x e
 
   -- and that length is how many they are
-  pub data_length_lem : {x : TlvRead} → x ≡ lookup_of magic kind s → data_length x s ≡ length (data_in magic kind s)
+  pub data_length_lem : {x : Result (Option ℕ) Refusal} → x ≡ lookup_of magic kind s → data_length x s ≡ length (data_in magic kind s)
   data_length_lem {x} e = cases x (sym e)
     where
-      cases : (x : TlvRead) → lookup_of magic kind s ≡ x → data_length x s ≡ length (data_in magic kind s)
-      cases (Found at) e =
+      cases : (x : Result (Option ℕ) Refusal) → lookup_of magic kind s ≡ x → data_length x s ≡ length (data_in magic kind s)
+      cases (Ok (Some at)) e =
           let p = found_part e in
           let h = p.inside_message in
           let l = (bounded magic s (found_done e).0).lent in
           rw p.data_is (simp (length-take, length-drop) (omega arith))
-      cases Absent e = rw (empty_absent e)
-      cases (Refused x) e = rw (empty_refused (refused x e))
+      cases (Ok None) e = rw (empty_absent e)
+      cases (Err x) e = rw (empty_refused (refused x e))

@@ -1,4 +1,5 @@
 -- The lengths that a reader is told which hopes that nothing is wrong, and what the checks say where there are none.
+use Rattle.std.specs.Prelude.{None, Result, Ok, Err}
 use Prim.Native.Nat.{ℕ, ◌-◌}
 use mathlib.Core.Path.{◌≡◌, refl, sym, ap, ◌∙◌}
 use mathlib.Core.List.{List}
@@ -6,16 +7,14 @@ use borrow.Author.Tests.{le-ltb, ltb-false, eq-eqb, ne_eqb, eqb-true, eqb-false,
 use lib.ListN.{take, drop}
 use Rattle.refusal.specs.Choice.{refuse}
 use Rattle.refusal.proofs.Choice.{passed}
-use Rattle.refusal.specs.declared.Outcome.{Outcome}
-use Rattle.refusal.specs.declared.Outcome.TheVariants.{Done, Refused}
 use Rattle.message.specs.Fields.{tail_of}
 use Rattle.message.specs.Reading.{check_of, by}
 use Rattle.contents.specs.Parts.{lookup_of}
 use Rattle.contents.specs.Sound.{no_bounds, bounds_at, fixed_bounds, sound_bounds}
 use Rattle.message.specs.When.{IsStamped}
-use Rattle.contents.specs.declared.parts.TlvRead.TheVariants as lookup
 use Rattle.contents.specs.declared.sound.Bounds.{Bounds}
 use Rattle.message.proofs.Laws.{accepted}
+use Rattle.refusal.specs.declared.Refusal.{Refusal}
 
 module _ (s : List ℕ) where
   -- lengths that are told are those of octets that pass the checks before the tail's
@@ -38,7 +37,7 @@ module _ (s : List ℕ) where
       rw (le-ltb _ _ p.0.0.0.0.0, eq-eqb _ _ p.0.0.0.0.1, ne_eqb _ _ p.0.0.0.1, le-ltb _ _ p.0.0.1, le-ltb _ _ p.0.1, p.1)
 
   -- where none are, the message is refused
-  pub no_bounds_lem : (magic : ℕ) {b : Bounds} → b.size ≡ 0 → fixed_bounds s ≡ b → check_of magic s ≡ Done → ⊥
+  pub no_bounds_lem : (magic : ℕ) {b : Bounds} → b.size ≡ 0 → fixed_bounds s ≡ b → check_of magic s ≡ Ok tt → ⊥
   no_bounds_lem magic n e d =
       let a = accepted magic s d in
       let p : IsStamped s = (((((a.header, a.version), a.listed), a.least), a.lent), a.stamp) in
@@ -48,33 +47,33 @@ module _ (s : List ℕ) where
   pub part_tail : {b : Bounds} → b ≡ bounds_at s → take (b.length - b.size) (drop b.size s) ≡ tail_of s
   part_tail e = λ i. take ((e i).length - (e i).size) (drop (e i).size s)
 
-  pub sound_none : (magic : ℕ) → (check_of magic s ≡ Done → ⊥) → no_bounds ≡ sound_bounds magic s
+  pub sound_none : (magic : ℕ) → (check_of magic s ≡ Ok tt → ⊥) → no_bounds ≡ sound_bounds magic s
   unfolding sound_bounds
   sound_none magic h = cases (check_of magic s) refl
     where
-      cases : (o : Outcome) → check_of magic s ≡ o → no_bounds ≡ sound_bounds magic s
-      cases Done e = absurd (h e)
-      cases (Refused x) e = rw e
+      cases : (o : Result (Unit {0}) Refusal) → check_of magic s ≡ o → no_bounds ≡ sound_bounds magic s
+      cases (Ok tt) e = absurd (h e)
+      cases (Err x) e = rw e
 
   -- a message that the checks refuse is not looked at
-  pub not_looked_up : (magic kind : ℕ) → (check_of magic s ≡ Done → ⊥) → by (check_of magic s) lookup.Refused lookup.Absent ≡ lookup_of magic kind s
+  pub not_looked_up : (magic kind : ℕ) → (check_of magic s ≡ Ok tt → ⊥) → by (check_of magic s) Err (Ok None) ≡ lookup_of magic kind s
   unfolding lookup_of
   not_looked_up magic kind h = cases (check_of magic s) refl
     where
-      cases : (o : Outcome) → check_of magic s ≡ o → by (check_of magic s) lookup.Refused lookup.Absent ≡ lookup_of magic kind s
-      cases Done e = absurd (h e)
-      cases (Refused x) e = rw e
+      cases : (o : Result (Unit {0}) Refusal) → check_of magic s ≡ o → by (check_of magic s) Err (Ok None) ≡ lookup_of magic kind s
+      cases (Ok tt) e = absurd (h e)
+      cases (Err x) e = rw e
 
   -- the lengths of a message in which nothing is wrong are told, and of no other
-  pub whole_bounds : (magic : ℕ) {b : Bounds} → b ≡ sound_bounds magic s → (b.size ≡ 0 → ⊥) → (check_of magic s ≡ Done) × (b ≡ bounds_at s)
+  pub whole_bounds : (magic : ℕ) {b : Bounds} → b ≡ sound_bounds magic s → (b.size ≡ 0 → ⊥) → (check_of magic s ≡ Ok tt) × (b ≡ bounds_at s)
   unfolding sound_bounds
   whole_bounds magic {b} t n = cases (check_of magic s) refl
     where
-      cases : (o : Outcome) → check_of magic s ≡ o → (check_of magic s ≡ Done) × (b ≡ bounds_at s)
-      cases Done e = (e, rw e at t)
-      cases (Refused x) e = let z : b ≡ no_bounds = rw e at t in absurd (n (ap (λ (y : Bounds). y.size) z))
+      cases : (o : Result (Unit {0}) Refusal) → check_of magic s ≡ o → (check_of magic s ≡ Ok tt) × (b ≡ bounds_at s)
+      cases (Ok tt) e = (e, rw e at t)
+      cases (Err x) e = let z : b ≡ no_bounds = rw e at t in absurd (n (ap (λ (y : Bounds). y.size) z))
 
-  pub refused_bounds : (magic : ℕ) {b : Bounds} → b ≡ sound_bounds magic s → b.size ≡ 0 → check_of magic s ≡ Done → ⊥
+  pub refused_bounds : (magic : ℕ) {b : Bounds} → b ≡ sound_bounds magic s → b.size ≡ 0 → check_of magic s ≡ Ok tt → ⊥
   unfolding sound_bounds
   refused_bounds magic {b} t n d =
       let z : b ≡ bounds_at s = rw d at t in

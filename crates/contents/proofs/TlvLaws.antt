@@ -1,5 +1,6 @@
 -- The TLVs of a message that is read: they lie end to end from the fixed size to messageLength, a loop of calls gives them in order, and
 -- looking up a type finds the first of them that has it. What a call gives lies in the message, and a walk is refused as reading is.
+use Rattle.std.specs.Prelude.{Option, Some, None, Result, Ok, Err}
 use Prim.Native.Nat.{ℕ, ◌+◌, ◌-◌, ◌<◌, ◌≤◌}
 use mathlib.Core.Path.{◌≡◌, refl, sym, ap, subst, ◌∙◌}
 use mathlib.Core.List.{List, [], ◌∷◌}
@@ -13,13 +14,9 @@ use Rattle.refusal.specs.Choice.{pick, refuse}
 use Rattle.refusal.specs.Refusal.{code_of}
 use Rattle.refusal.proofs.Choice.{passed}
 use Rattle.refusal.specs.declared.Refusal.{Refusal}
-use Rattle.refusal.specs.declared.Outcome.{Outcome}
-use Rattle.refusal.specs.declared.Outcome.TheVariants.{Done, Refused}
 use Rattle.tlv.specs.Walk.{type_at, size_at, next_of, broken, first, Reached, start, next}
 use Rattle.tlv.specs.Form.{misfit_at}
 use Rattle.tlv.specs.Faults.{sought_at}
-use Rattle.tlv.specs.declared.walk.Next.{Next}
-use Rattle.tlv.specs.declared.walk.Next.TheVariants.{At, Bad}
 use Rattle.tlv.specs.declared.walk.Sought.TheVariants.{OfType}
 use Rattle.tlv.proofs.WalkLaws.{next_fits, walk_end, walk_bad, walk_more, walk_ind}
 use Rattle.tlv.proofs.FaultLaws.{sound_whole, sound_fits}
@@ -33,17 +30,14 @@ use Rattle.message.specs.When.{IsStamped, When}
 use Rattle.contents.specs.Tlvs.{tlv_of, end_of, tlvs_from, tlvs_of, standing, next_in, Tiles, Gives, of_type}
 use Rattle.contents.specs.Answers.{walked_code}
 use Rattle.contents.specs.declared.tlvs.Tlv.{Tlv}
-use Rattle.contents.specs.declared.tlvs.Walked.TheVariants as walked
-use Rattle.contents.specs.declared.parts.TlvRead.{TlvRead}
-use Rattle.contents.specs.declared.parts.TlvRead.TheVariants as lookup
 use Rattle.message.proofs.Laws.{accepted, bounded, tail_length}
 use Rattle.contents.proofs.Part.{tail_be}
 use Rattle.message.proofs.Exactly.{told, when_told}
 
-no_next : {x : Refusal} {y : Tlv} → walked.Refused x ≡ walked.Next y → ⊥
+no_next : {x : Refusal} {y : Tlv} → ◌≡◌ {A = Result (Option Tlv) Refusal} (Err x) (Ok (Some y)) → ⊥
 no_next e = let z : ◌≡◌ {A = ℕ} 0 1 = cc in omega arith
 
-end_next : {y : Tlv} → walked.End ≡ walked.Next y → ⊥
+end_next : {y : Tlv} → ◌≡◌ {A = Result (Option Tlv) Refusal} (Ok None) (Ok (Some y)) → ⊥
 end_next e = let z : ◌≡◌ {A = ℕ} 0 1 = cc in omega arith
 
 -- what comes after the checks before the tail's, where they are passed
@@ -78,31 +72,31 @@ headed_refused refused rest other magic s none =
 -- ---- a TLV that is given
 module _ (magic size : ℕ) (t : List ℕ) (p : ℕ) where
   -- it stands at the place asked for, and is whole
-  standing_given : {x : Tlv} → standing magic size t p ≡ walked.Next x → (q : ℕ) × (next_of t p ≡ At q) × (tlv_of size t p ≡ x)
+  standing_given : {x : Tlv} → standing magic size t p ≡ Ok (Some x) → (q : ℕ) × (next_of t p ≡ Some q) × (tlv_of size t p ≡ x)
   unfolding standing
   standing_given {x} e = cases (leb (length t) p) (next_of t p) (misfit_at magic t p) refl refl refl
     where
-      cases : (a : Bool) (n : Next) (b : Bool) → leb (length t) p ≡ a → next_of t p ≡ n → misfit_at magic t p ≡ b
-          → (q : ℕ) × (next_of t p ≡ At q) × (tlv_of size t p ≡ x)
+      cases : (a : Bool) (n : Option ℕ) (b : Bool) → leb (length t) p ≡ a → next_of t p ≡ n → misfit_at magic t p ≡ b
+          → (q : ℕ) × (next_of t p ≡ Some q) × (tlv_of size t p ≡ x)
       cases true n b ea en eb = absurd (end_next (rw ea at e))
-      cases false Bad b ea en eb = absurd (no_next (rw (ea, en) at e))
-      cases false (At q) true ea en eb = absurd (no_next (rw (ea, en, eb) at e))
-      cases false (At q) false ea en eb =
-          let k : walked.Next (tlv_of size t p) ≡ walked.Next x = rw (ea, en, eb) at e in (q, en, cc)
+      cases false None b ea en eb = absurd (no_next (rw (ea, en) at e))
+      cases false (Some q) true ea en eb = absurd (no_next (rw (ea, en, eb) at e))
+      cases false (Some q) false ea en eb =
+          let k : ◌≡◌ {A = Result (Option Tlv) Refusal} (Ok (Some (tlv_of size t p))) (Ok (Some x)) = rw (ea, en, eb) at e in (q, en, cc)
 
 module _ (magic from : ℕ) (s : List ℕ) (x : Tlv) where
-  given_by : next_in magic from s ≡ walked.Next x → Bounded s × (standing magic (fixed_size (type_of s)) (tail_of s) (from - fixed_size (type_of s)) ≡ walked.Next x)
+  given_by : next_in magic from s ≡ Ok (Some x) → Bounded s × (standing magic (fixed_size (type_of s)) (tail_of s) (from - fixed_size (type_of s)) ≡ Ok (Some x))
   unfolding next_in
   given_by e = cases (eqb from 0) refl
     where
-      begun : (o : Outcome) → check_of magic s ≡ o → from ≡ 0 → by (check_of magic s) walked.Refused (standing magic (fixed_size (type_of s)) (tail_of s) 0) ≡ walked.Next x
-          → Bounded s × (standing magic (fixed_size (type_of s)) (tail_of s) (from - fixed_size (type_of s)) ≡ walked.Next x)
-      begun (Refused y) eo z h = absurd (no_next (rw eo at h))
-      begun Done eo z h =
+      begun : (o : Result (Unit {0}) Refusal) → check_of magic s ≡ o → from ≡ 0 → by (check_of magic s) Err (standing magic (fixed_size (type_of s)) (tail_of s) 0) ≡ Ok (Some x)
+          → Bounded s × (standing magic (fixed_size (type_of s)) (tail_of s) (from - fixed_size (type_of s)) ≡ Ok (Some x))
+      begun (Err y) eo z h = absurd (no_next (rw eo at h))
+      begun (Ok tt) eo z h =
           let m : from - fixed_size (type_of s) ≡ 0 = omega arith in
           (bounded magic s eo, rw m (rw eo at h))
 
-      cases : (b : Bool) → eqb from 0 ≡ b → Bounded s × (standing magic (fixed_size (type_of s)) (tail_of s) (from - fixed_size (type_of s)) ≡ walked.Next x)
+      cases : (b : Bool) → eqb from 0 ≡ b → Bounded s × (standing magic (fixed_size (type_of s)) (tail_of s) (from - fixed_size (type_of s)) ≡ Ok (Some x))
       cases true t = begun (check_of magic s) refl (eqb-true from 0 t) (rw t at e)
       cases false t =
           let p1 = passed _ _ _ _ no_next (rw t at e) in
@@ -120,7 +114,7 @@ module _ (magic from : ℕ) (s : List ℕ) (x : Tlv) where
     pub inside : end_of x ≤ length_of s
     pub lent : length_of s ≤ length s
 
-  pub next_inside : next_in magic from s ≡ walked.Next x → InMessage
+  pub next_inside : next_in magic from s ≡ Ok (Some x) → InMessage
   next_inside e =
       let g = given_by e in
       let p = from - fixed_size (type_of s) in
@@ -139,7 +133,7 @@ module _ (magic from : ℕ) (s : List ℕ) (x : Tlv) where
       }
 
 -- ---- all of them
-module _ (magic : ℕ) (s : List ℕ) (read : check_of magic s ≡ Done) where
+module _ (magic : ℕ) (s : List ℕ) (read : check_of magic s ≡ Ok tt) where
   abbrev size : ℕ
   size = fixed_size (type_of s)
 
@@ -153,17 +147,17 @@ module _ (magic : ℕ) (s : List ℕ) (read : check_of magic s ≡ Done) where
   not_broken : {p : ℕ} → p < length (tail_of s) → broken (tail_of s) p ≡ p → broken (tail_of s) p ≡ length (tail_of s) → ⊥
   not_broken l e w = omega arith
 
-  one_more : {p q : ℕ} → p < length (tail_of s) → next_of (tail_of s) p ≡ At q → tlvs_from s p ≡ tlv_of size (tail_of s) p ∷ tlvs_from s q
+  one_more : {p q : ℕ} → p < length (tail_of s) → next_of (tail_of s) p ≡ Some q → tlvs_from s p ≡ tlv_of size (tail_of s) p ∷ tlvs_from s q
   one_more {p} {q} l m = walk_more [] (λ (r : ℕ). []) (λ (r : ℕ) (xs : List Tlv). tlv_of size (tail_of s) r ∷ xs) (tail_of s) p q l m
 
   no_more : tlvs_from s (length (tail_of s)) ≡ []
   no_more = walk_end [] (λ (r : ℕ). []) (λ (r : ℕ) (xs : List Tlv). tlv_of size (tail_of s) r ∷ xs) (tail_of s)
 
-  still : {p q : ℕ} → p < length (tail_of s) → next_of (tail_of s) p ≡ At q → broken (tail_of s) p ≡ length (tail_of s) → broken (tail_of s) q ≡ length (tail_of s)
+  still : {p q : ℕ} → p < length (tail_of s) → next_of (tail_of s) p ≡ Some q → broken (tail_of s) p ≡ length (tail_of s) → broken (tail_of s) q ≡ length (tail_of s)
   still {p} {q} l m w = sym (walk_more (length (tail_of s)) (λ (r : ℕ). r) (λ (r x : ℕ). x) (tail_of s) p q l m) ∙ w
 
   -- a TLV ends where the walk goes on
-  end_is : (p : ℕ) {q : ℕ} → next_of (tail_of s) p ≡ At q → size + q ≡ end_of (tlv_of size (tail_of s) p)
+  end_is : (p : ℕ) {q : ℕ} → next_of (tail_of s) p ≡ Some q → size + q ≡ end_of (tlv_of size (tail_of s) p)
   end_is p m = let f = next_fits (tail_of s) p m in omega arith
 
   -- THEY COVER THE TAIL: the first stands at the fixed size, each next where the one before ended, the last ends at messageLength
@@ -193,20 +187,20 @@ module _ (magic : ℕ) (s : List ℕ) (read : check_of magic s ≡ Done) where
 
       cases : (b : Bool) → eqb from 0 ≡ b → next_in magic from s ≡ standing magic size (tail_of s) (from - size)
       cases true t = let z : from - size ≡ 0 = let k = eqb-true from 0 t in omega arith in rw (t, read, z)
-      cases false t = rw t (headed_passed walked.Refused (standing magic size (tail_of s) (from - size)) s is_stamped)
+      cases false t = rw t (headed_passed Err (standing magic size (tail_of s) (from - size)) s is_stamped)
 
   -- A LOOP GIVES THEM ALL, and in order: it begins at 0 and goes on from where each ended, until there is none
   pub given : Gives magic s 0 (tlvs_of s)
   unfolding standing
   given = run 0 (omega arith) 0 (omega arith) start is_whole
     where
-      one : {p q : ℕ} (from : ℕ) → from - size ≡ p → Reached (tail_of s) p → p < length (tail_of s) → next_of (tail_of s) p ≡ At q
-          → next_in magic from s ≡ walked.Next (tlv_of size (tail_of s) p)
+      one : {p q : ℕ} (from : ℕ) → from - size ≡ p → Reached (tail_of s) p → p < length (tail_of s) → next_of (tail_of s) p ≡ Some q
+          → next_in magic from s ≡ Ok (Some (tlv_of size (tail_of s) p))
       one {p} {q} from e r l m =
           let f = absent_none (misfit_at magic (tail_of s)) (tail_of s) (sound_fits magic (tail_of s) (accepted magic s read).tail) p (record { reached = r; inside = l; end = q; whole = m }) in
           read_on from ∙ rw (e, lt-leb (length (tail_of s)) p l, m, f)
 
-      last : (from : ℕ) → from - size ≡ length (tail_of s) → next_in magic from s ≡ walked.End
+      last : (from : ℕ) → from - size ≡ length (tail_of s) → next_in magic from s ≡ Ok None
       last from e = let n = length (tail_of s) in read_on from ∙ rw (e, le-leb n n (omega arith))
 
       run : (p : ℕ) → p ≤ length (tail_of s) → (from : ℕ) → from - size ≡ p → Reached (tail_of s) p → broken (tail_of s) p ≡ length (tail_of s)
@@ -227,8 +221,8 @@ module _ (magic : ℕ) (s : List ℕ) (read : check_of magic s ≡ Done) where
       test : ℕ → Bool
       test = sought_at (OfType kind) (tail_of s)
 
-      told : ℕ → TlvRead
-      told p = pick (ltb p (length (tail_of s))) (lookup.Found (size + p + 4)) lookup.Absent
+      told : ℕ → Result (Option ℕ) Refusal
+      told p = pick (ltb p (length (tail_of s))) (Ok (Some (size + p + 4))) (Ok None)
 
       none : ℕ → ℕ
       none q = length (tail_of s)
@@ -263,9 +257,9 @@ module _ (magic : ℕ) (s : List ℕ) where
   unfolding next_in
   walk_code = cases (check_of magic s) refl
     where
-      cases : (o : Outcome) → check_of magic s ≡ o → walked_code (next_in magic 0 s) ≡ code_of (check_of magic s)
-      cases Done e = first_given (tlvs_of s) (given magic s e) ∙ ap code_of (sym e)
-      cases (Refused x) e = rw e
+      cases : (o : Result (Unit {0}) Refusal) → check_of magic s ≡ o → walked_code (next_in magic 0 s) ≡ code_of (check_of magic s)
+      cases (Ok tt) e = first_given (tlvs_of s) (given magic s e) ∙ ap code_of (sym e)
+      cases (Err x) e = rw e
 
   pub walk_told : When magic s (walked_code (next_in magic 0 s))
   walk_told = subst (When magic s) (sym walk_code) (told magic s)

@@ -1,4 +1,5 @@
 -- Inputs at which the contracts demand different answers, computed from the definitions.
+use Rattle.std.specs.Prelude.{Option, Some, None, Result, Ok, Err}
 use Prim.Native.Nat.{ℕ, ◌+◌, ◌*◌}
 use mathlib.Core.Path.{◌≡◌, refl}
 use mathlib.Core.List.{List, [], ◌∷◌, ◌++◌, map}
@@ -16,12 +17,8 @@ use Rattle.message.specs.Reading.{check_of}
 use Rattle.contents.specs.Parts.{tail_in, data_in, lookup_of, suffix_of, link_of}
 use Rattle.contents.specs.Answers.{walked_code}
 use Rattle.contents.specs.Tlvs.{tlvs_of, standing, next_in, data_from}
-use Rattle.contents.specs.declared.tlvs.Walked.{Walked}
-use Rattle.contents.specs.declared.tlvs.Walked.TheVariants as walked
-use Rattle.contents.specs.declared.parts.TlvRead.TheVariants as lookup
-use Rattle.contents.specs.declared.parts.SuffixRead.TheVariants as flags
-use Rattle.contents.specs.declared.parts.LinkRead.TheVariants as link
 use Rattle.message.proofs.Witnesses.{plain, suffix_tlv, wrong_tlv, signaling, six}
+use Rattle.refusal.specs.declared.Refusal.{Refusal}
 
 -- each number with its N, and what it carries
 pub carries : map (link_of 0xABCD) (
@@ -33,13 +30,13 @@ pub carries : map (link_of 0xABCD) (
     ∷ signaling 0x1005 0
     ∷ signaling 0x2000 2
     ∷ [])
-    ≡ link.Message SlavePresent
-    ∷ link.Message Lock
-    ∷ link.Message Locked
-    ∷ link.Message (Calibrate 0x71 0x72 0x73747576)
-    ∷ link.Message (Calibrated 0x7172737475767778 0x797A7B7C7D7E7F80)
-    ∷ link.Message ModeOn
-    ∷ link.Absent
+    ≡ Ok (Some SlavePresent)
+    ∷ Ok (Some Lock)
+    ∷ Ok (Some Locked)
+    ∷ Ok (Some (Calibrate 0x71 0x72 0x73747576))
+    ∷ Ok (Some (Calibrated 0x7172737475767778 0x797A7B7C7D7E7F80))
+    ∷ Ok (Some ModeOn)
+    ∷ Ok None
     ∷ []
 unfolding link_of link_in link_at link_message_at check_of refuse fixed_size be fault_of walk walk_by next_of misfit_at numbered HasForm data_octets
 carries = refl
@@ -49,20 +46,20 @@ pub looks_up : data_in 0xABCD 3 (plain 0xB 2 78 60 suffix_tlv) ≡ drop 4 suffix
 unfolding data_in tail_in check_of refuse fixed_size be fault_of walk walk_by next_of misfit_at numbered HasForm data_octets
 looks_up = refl
 
-pub says_where : lookup_of 0xABCD 3 (plain 0xB 2 78 60 suffix_tlv) ≡ lookup.Found 68
+pub says_where : lookup_of 0xABCD 3 (plain 0xB 2 78 60 suffix_tlv) ≡ Ok (Some 68)
 unfolding lookup_of check_of refuse fixed_size be fault_of walk walk_by next_of misfit_at numbered HasForm data_octets
 says_where = refl
 
-pub says_absent : lookup_of 0xABCD 8 (plain 0xB 2 78 60 suffix_tlv) ≡ lookup.Absent
+pub says_absent : lookup_of 0xABCD 8 (plain 0xB 2 78 60 suffix_tlv) ≡ Ok None
 unfolding lookup_of check_of refuse fixed_size be fault_of walk walk_by next_of misfit_at numbered HasForm data_octets
 says_absent = refl
 
 -- wrFlags without its reserved bits; none without the suffix, and none under another magic
-pub has_suffix : suffix_of 0xABCD (plain 0xB 2 78 60 suffix_tlv) ≡ flags.Flags 7
+pub has_suffix : suffix_of 0xABCD (plain 0xB 2 78 60 suffix_tlv) ≡ Ok (Some 7)
 unfolding suffix_of suffix_in suffix_at check_of refuse fixed_size be fault_of walk walk_by next_of misfit_at numbered HasForm data_octets
 has_suffix = refl
 
-pub has_no_suffix : suffix_of 0xDEAD (plain 0xB 2 78 60 suffix_tlv) ≡ flags.Absent
+pub has_no_suffix : suffix_of 0xDEAD (plain 0xB 2 78 60 suffix_tlv) ≡ Ok None
 unfolding suffix_of suffix_in suffix_at check_of refuse fixed_size be fault_of walk walk_by next_of misfit_at numbered HasForm data_octets
 has_no_suffix = refl
 
@@ -76,10 +73,10 @@ pub three_tlvs : tlvs_of three
 unfolding fixed_size be walk walk_by next_of
 three_tlvs = refl
 
-abbrev given : Walked → ℕ
-given (walked.Next x) = x.place
-given walked.End = 0
-given (walked.Refused x) = 1
+abbrev given : Result (Option Tlv) Refusal → ℕ
+given (Ok (Some x)) = x.place
+given (Ok None) = 0
+given (Err x) = 1
 
 -- at 0 the first; on the places of the three, and from inside the fixed part; nothing at the end and past it
 pub walks : map (λ (from : ℕ). given (next_in 0xABCD from three)) (0 ∷ 63 ∷ 64 ∷ 70 ∷ 84 ∷ 88 ∷ 1000 ∷ []) ≡ 64 ∷ 64 ∷ 64 ∷ 70 ∷ 84 ∷ 0 ∷ 0 ∷ []
@@ -87,11 +84,11 @@ unfolding next_in standing check_of refuse fixed_size be fault_of walk walk_by n
 walks = refl
 
 -- inside a TLV stands none: its data 0x5678 are no length
-pub walk_astray : next_in 0xABCD 66 three ≡ walked.Refused (Tlv 66)
+pub walk_astray : next_in 0xABCD 66 three ≡ Err (Tlv 66)
 unfolding next_in standing refuse fixed_size be next_of
 walk_astray = refl
 
-pub walk_refused : next_in 0xABCD 0 (plain 0x0 2 64 40 (six ++ wrong_tlv)) ≡ walked.Refused (WrBad 50)
+pub walk_refused : next_in 0xABCD 0 (plain 0x0 2 64 40 (six ++ wrong_tlv)) ≡ Err (WrBad 50)
 unfolding next_in standing check_of refuse fixed_size be fault_of walk walk_by next_of misfit_at numbered HasForm data_octets
 walk_refused = refl
 

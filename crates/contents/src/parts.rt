@@ -9,33 +9,8 @@ ghost use Rattle.message.specs.Reading.{Bounded};
 ghost use Rattle.contents.specs.Parts.{tail_in, data_in, lookup_of, IsWithin, data_length, suffix_answer, suffix_of, link_answer, link_of};
 
 use message::fields::{ANNOUNCE, SIGNALING};
-use refusal::{Outcome, Refusal};
-use tlv::walk::Sound;
-use tlv::wr::{LinkFound, LinkMessage, Suffix};
-
-// Where the data of the first TLV of a type begin in the message, that there is none, or why the message is refused.
-#[derive(Clone, Copy)]
-pub enum TlvRead {
-    Found(usize),
-    Absent,
-    Refused(Refusal),
-}
-
-// wrFlags of an Announce's suffix, that it has none, or why it is refused.
-#[derive(Clone, Copy)]
-pub enum SuffixRead {
-    Flags(u16),
-    Absent,
-    Refused(Refusal),
-}
-
-// The link message of a Signaling, that it has none, or why it is refused.
-#[derive(Clone, Copy)]
-pub enum LinkRead {
-    Message(LinkMessage),
-    Absent,
-    Refused(Refusal),
-}
+use refusal::Refusal;
+use tlv::wr::LinkMessage;
 
 // The tail of a message whose lengths have been checked.
 pub fn checked_tail(s: &[u8]) -> &[u8]
@@ -52,8 +27,8 @@ pub fn tail(s: &[u8], magic: u16) -> &[u8]
     ensures { result.now ≡ tail_in magic s.now }
 {
     match message::reading::check(s, magic) {
-        Outcome::Refused(_) => &s[..0],
-        Outcome::Done => checked_tail(s),
+        Err(_) => &s[..0],
+        Ok(()) => checked_tail(s),
     }
 }
 
@@ -65,18 +40,18 @@ pub fn lookup(s: &[u8], kind: u16, magic: u16) -> &[u8]
     crate::search::data_of(t, kind)
 }
 
-fn unread(x: Outcome) -> TlvRead
-    ensures { result ≡ by x TlvRead.Refused TlvRead.Absent }
+fn unread(x: Result<(), Refusal>) -> Result<Option<usize>, Refusal>
+    ensures { result ≡ by x Err (Ok None) }
 {
     match x {
-        Outcome::Refused(y) => TlvRead::Refused(y),
-        Outcome::Done => TlvRead::Absent,
+        Err(y) => Err(y),
+        Ok(()) => Ok(None),
     }
 }
 
 // Why `lookup` hands back what it does. A message in which nothing is wrong is walked over once; what is wrong with any
 // other is left to the checks.
-pub fn looked_up(s: &[u8], kind: u16, magic: u16) -> TlvRead
+pub fn looked_up(s: &[u8], kind: u16, magic: u16) -> Result<Option<usize>, Refusal>
     ensures { result ≡ lookup_of magic kind s.now }
 {
     let b = crate::sound::fixed_bounds(s);
@@ -86,62 +61,62 @@ pub fn looked_up(s: &[u8], kind: u16, magic: u16) -> TlvRead
         return unread(message::reading::check(s, magic));
     }
     let t = &s[size..length];
-    let Sound::FirstAt(p) = crate::search::sound_place(t, kind, magic) else {
+    let Some(p) = crate::search::sound_place(t, kind, magic) else {
         return unread(message::reading::check(s, magic));
     };
     if p < t.len() {
-        TlvRead::Found(size + p + 4)
+        Ok(Some(size + p + 4))
     } else {
-        TlvRead::Absent
+        Ok(None)
     }
 }
 
 // How many octets of data the TLV has that was found, read before them.
-pub fn data_length(s: &[u8], x: TlvRead) -> usize
+pub fn data_length(s: &[u8], x: Result<Option<usize>, Refusal>) -> usize
     requires { IsWithin x s.now }
     ensures { result ≡ data_length x s.now }
 {
     match x {
-        TlvRead::Found(at) => octets::held::u16_at(s, at - 2) as usize,
-        TlvRead::Absent => 0,
-        TlvRead::Refused(_) => 0,
+        Ok(Some(at)) => octets::held::u16_at(s, at - 2) as usize,
+        Ok(None) => 0,
+        Err(_) => 0,
     }
 }
 
-fn suffix_read(x: Suffix) -> SuffixRead
+fn suffix_read(x: Option<u16>) -> Result<Option<u16>, Refusal>
     ensures { result ≡ suffix_answer x }
 {
     match x {
-        Suffix::Flags(flags) => SuffixRead::Flags(flags),
-        Suffix::Absent => SuffixRead::Absent,
+        Some(flags) => Ok(Some(flags)),
+        None => Ok(None),
     }
 }
 
 // The suffix of an Announce: the reading checks, then 3 if it is another message.
-pub fn suffix(s: &[u8], magic: u16) -> SuffixRead
+pub fn suffix(s: &[u8], magic: u16) -> Result<Option<u16>, Refusal>
     ensures { result ≡ suffix_of magic s.now }
 {
     match message::reading::takes(s, ANNOUNCE, magic) {
-        Outcome::Refused(x) => SuffixRead::Refused(x),
-        Outcome::Done => suffix_read(crate::wr::first_suffix(checked_tail(s), magic)),
+        Err(x) => Err(x),
+        Ok(()) => suffix_read(crate::wr::first_suffix(checked_tail(s), magic)),
     }
 }
 
-fn link_read(x: LinkFound) -> LinkRead
+fn link_read(x: Option<LinkMessage>) -> Result<Option<LinkMessage>, Refusal>
     ensures { result ≡ link_answer x }
 {
     match x {
-        LinkFound::Message(m) => LinkRead::Message(m),
-        LinkFound::Absent => LinkRead::Absent,
+        Some(m) => Ok(Some(m)),
+        None => Ok(None),
     }
 }
 
 // The first link message of a Signaling: the reading checks, then 3 if it is another message.
-pub fn link_message(s: &[u8], magic: u16) -> LinkRead
+pub fn link_message(s: &[u8], magic: u16) -> Result<Option<LinkMessage>, Refusal>
     ensures { result ≡ link_of magic s.now }
 {
     match message::reading::takes(s, SIGNALING, magic) {
-        Outcome::Refused(x) => LinkRead::Refused(x),
-        Outcome::Done => link_read(crate::wr::first_link(checked_tail(s), magic)),
+        Err(x) => Err(x),
+        Ok(()) => link_read(crate::wr::first_link(checked_tail(s), magic)),
     }
 }

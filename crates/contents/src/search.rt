@@ -5,16 +5,16 @@ ghost use Rattle.tlv.specs.Form.{is_link};
 ghost use Rattle.tlv.specs.Faults.{sought_at, is_sound, sound_of};
 
 use tlv::form;
-use tlv::form::{MODE_ON, Numbered, SLAVE_PRESENT};
-use tlv::walk::{Next, Sought, Sound};
+use tlv::form::{MODE_ON, SLAVE_PRESENT};
+use tlv::walk::Sought;
 
 // Whether a TLV is one of the six link messages, which are numbered from SLAVE_PRESENT to MODE_ON.
-pub fn is_link(x: Numbered) -> bool
+pub fn is_link(x: Option<u16>) -> bool
     ensures { result ≡ is_link x }
 {
     match x {
-        Numbered::Number(n) => (SLAVE_PRESENT <= n) & (n <= MODE_ON),
-        Numbered::Other => false,
+        Some(n) => (SLAVE_PRESENT <= n) & (n <= MODE_ON),
+        None => false,
     }
 }
 
@@ -37,7 +37,7 @@ pub fn place(t: &[u8], what: Sought) -> usize
 {
     let mut at: usize = 0;
     while at < t.len() {
-        let Next::At(p) = tlv::walk::step(t, at) else {
+        let Some(p) = tlv::walk::step(t, at) else {
             return t.len();
         };
         if is_sought(t, at, what) {
@@ -69,7 +69,7 @@ pub fn is_sound(t: &[u8], magic: u16) -> bool
 {
     let mut at: usize = 0;
     while at < t.len() {
-        let Next::At(p) = tlv::walk::step(t, at) else {
+        let Some(p) = tlv::walk::step(t, at) else {
             return false;
         };
         let l = p - at - 4;
@@ -83,22 +83,22 @@ pub fn is_sound(t: &[u8], magic: u16) -> bool
 }
 
 // Where the first TLV of a type stands in a sound tail.
-pub fn sound_place(t: &[u8], kind: u16, magic: u16) -> Sound
+pub fn sound_place(t: &[u8], kind: u16, magic: u16) -> Option<usize>
     ensures { result ≡ sound_of magic (sought_at (Sought.OfType kind) t.now) t.now }
 {
     let mut found = t.len();
     let mut at: usize = 0;
     while at < t.len() {
-        let Next::At(p) = tlv::walk::step(t, at) else {
-            return Sound::Faulty;
+        let Some(p) = tlv::walk::step(t, at) else {
+            return None;
         };
         let l = p - at - 4;
         let x = form::number_at(t, at, l, magic);
         if form::misfits(x, l) {
-            return Sound::Faulty;
+            return None;
         }
         found = tlv::walk::later(t.len(), found, at, octets::held::u16_at(t, at) == kind);
         at = p;
     }
-    Sound::FirstAt(found)
+    Some(found)
 }

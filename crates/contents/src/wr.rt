@@ -4,10 +4,10 @@ ghost use Rattle.tlv.specs.Wr.{suffix_in, link_message_at, link_in};
 
 use tlv::form::{CALIBRATE, CALIBRATED, LOCK, LOCKED, SLAVE_PRESENT};
 use tlv::walk::Sought;
-use tlv::wr::{LinkFound, LinkMessage, Suffix};
+use tlv::wr::LinkMessage;
 
 // The first ANN_SUFIX of a tail.
-pub fn first_suffix(t: &[u8], magic: u16) -> Suffix
+pub fn first_suffix(t: &[u8], magic: u16) -> Option<u16>
     ensures { result ≡ suffix_in magic t.now }
 {
     tlv::wr::suffix_at(t, crate::search::place(t, Sought::Suffix(magic)))
@@ -37,12 +37,12 @@ fn link_at(t: &[u8], at: usize) -> LinkMessage
 }
 
 // The first link message of a tail.
-pub fn first_link(t: &[u8], magic: u16) -> LinkFound
+pub fn first_link(t: &[u8], magic: u16) -> Option<LinkMessage>
     ensures { result ≡ link_in magic t.now }
 {
     let p = crate::search::place(t, Sought::Link(magic));
     if p < t.len() {
-        return LinkFound::Message(link_at(t, p));
+        return Some(link_at(t, p));
     }
-    LinkFound::Absent
+    None
 }

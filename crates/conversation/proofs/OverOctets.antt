@@ -1,5 +1,6 @@
 -- What a link has its host send is written by `wr_tlvs` and found by reading, and the number that is read is the one that the other side's link takes; so two
 -- hosts over octets bring the link up on both sides, as the two links do.
+use Rattle.std.specs.Prelude.{Ok}
 use Prim.Native.Nat.{ℕ, ◌+◌, ◌^◌, ◌<◌, ◌≤◌}
 use mathlib.Core.Path.{◌≡◌, ap, ◌∙◌}
 use mathlib.Core.Bool.{true, false, not, ◌&&◌}
@@ -8,7 +9,6 @@ use native.Mathlib.Omega.{arith}
 use borrow.Author.Tests.{lt-ltb, le-ltb}
 use lib.ListN.{length}
 use Rattle.refusal.proofs.Choice.{goes_on}
-use Rattle.refusal.specs.declared.Outcome.TheVariants.{Done}
 use Rattle.tlv.specs.declared.wr.LinkMessage.{LinkMessage}
 use Rattle.tlv.specs.declared.wr.LinkMessage.TheVariants.{SlavePresent, Lock, Locked, Calibrate, Calibrated, ModeOn}
 use Rattle.tlv.specs.Numbers.{link_number}
@@ -16,7 +16,6 @@ use Rattle.message.specs.Fields.{fixed_size}
 use Rattle.message.specs.declared.fields.PortIdentity.{PortIdentity}
 use Rattle.message.specs.declared.fields.Header.{Header}
 use Rattle.writer.specs.Writing.{write_check, write_of}
-use Rattle.writer.specs.declared.writing.Written.TheVariants as written
 use Rattle.wr_tlvs.specs.Built.{link_size, link_octets, signaling}
 use Rattle.roundtrip.specs.Range.{LinkRange}
 use Rattle.roundtrip.proofs.WrBack.{link_checked, link_back}
@@ -38,14 +37,14 @@ size_most ModeOn = omega arith
 -- A Signaling whose header fits, in a buffer of 72 octets or more, is written, whichever the message; and what was written is heard by its number.
 module _ (magic : ℕ) (magic-fits : magic < 256 ^ 2) (header : Header) (target : PortIdentity) (transport : header.transport < 16)
     (out : List ℕ) (room : 72 ≤ length out) where
-  passes : (m : LinkMessage) → write_check magic (signaling header target) (link_octets magic m) (length out) ≡ Done
+  passes : (m : LinkMessage) → write_check magic (signaling header target) (link_octets magic m) (length out) ≡ Ok tt
   passes m =
       let most = size_most m in
       link_checked magic magic-fits header target m (length out)
       ∙ goes_on _ _ _ (ap not (lt-ltb header.transport 16 transport))
       ∙ goes_on _ _ _ (le-ltb (length out) (56 + link_size m) (omega arith))
 
-  pub put_written : (m : LinkMessage) → write_of magic (signaling header target) (link_octets magic m) out ≡ written.Octets (44 + length (link_octets magic m))
+  pub put_written : (m : LinkMessage) → write_of magic (signaling header target) (link_octets magic m) out ≡ Ok (44 + length (link_octets magic m))
   unfolding write_of fixed_size
   put_written m = rw (passes m)
 

@@ -1,21 +1,20 @@
 -- What two hosts put on the wire and hear from it: Signalings with a link message, as octets.
-use Rattle.std.specs.Prelude.{ℕ, ◌<◌, List, get_or}
+use Rattle.std.specs.Prelude.{ℕ, ◌<◌, List, get_or, Option, Some, None, Result, Ok, Err}
 use Rattle.tlv.specs.declared.wr.LinkMessage.{LinkMessage}
 use Rattle.tlv.specs.Numbers.{link_number}
 use Rattle.contents.specs.Parts.{link_of}
-use Rattle.contents.specs.declared.parts.LinkRead.{LinkRead}
-use Rattle.contents.specs.declared.parts.LinkRead.TheVariants.{Message, Absent, Refused}
 use Rattle.message.specs.declared.fields.PortIdentity.{PortIdentity}
 use Rattle.message.specs.declared.fields.Header.{Header}
 use Rattle.writer.specs.Writing.{buffer_of}
 use Rattle.wr_tlvs.specs.Built.{link_octets, signaling}
 use Rattle.links.specs.Hosts.{Heard, noise, number}
+use Rattle.refusal.specs.declared.Refusal.{Refusal}
 
 -- the number that a host hands on to its link; a message that is refused, or has no link message, is none
-abbrev pub handed_on : LinkRead → Heard
-handed_on (Message x) = number (link_number x)
-handed_on Absent = noise
-handed_on (Refused x) = noise
+abbrev pub handed_on : Result (Option LinkMessage) Refusal → Heard
+handed_on (Ok (Some x)) = number (link_number x)
+handed_on (Ok None) = noise
+handed_on (Err x) = noise
 
 abbrev pub heard_in : ℕ → List ℕ → Heard
 heard_in magic octets = handed_on (link_of magic octets)

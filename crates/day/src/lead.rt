@@ -1,7 +1,7 @@
 // Who the parent is: by the cards' merged lists, or by the ports' bests; and a change of it.
+use refusal::Refusal;
 use board::Parent;
-use election::Leader;
-use rank::Grandmaster;
+use rank::{Candidate, Grandmaster};
 use std::io;
 use std::io::Write;
 
@@ -14,11 +14,11 @@ pub fn ours(own: Grandmaster) -> Parent {
     }
 }
 
-fn led_by(x: Leader, own: Grandmaster) -> Parent {
+fn led_by(x: Result<Option<Candidate>, Refusal>, own: Grandmaster) -> Parent {
     match x {
-        Leader::Master(c) => board::sender_of(c),
-        Leader::Ours => ours(own),
-        Leader::Refused(_) => ours(own),
+        Ok(Some(c)) => board::sender_of(c),
+        Ok(None) => ours(own),
+        Err(_) => ours(own),
     }
 }
 

@@ -1,4 +1,5 @@
 -- Worked inputs, computed: 01's own, and one for each rule that a constant answer or a habit of other systems would break.
+use Rattle.std.specs.Prelude.{Some, None, Result, Ok, Err}
 use Prim.Native.Nat.{ℕ}
 use mathlib.Core.Path.{◌≡◌, refl, sym, ◌∙◌}
 use mathlib.Core.List.{[], ◌∷◌}
@@ -14,14 +15,13 @@ use Rattle.rank.specs.declared.Ranked.{Ranked}
 use Rattle.rank.specs.Ranked.{rank_of, pack}
 use Rattle.decide.specs.declared.DataSet.{DataSet}
 use Rattle.decide.specs.declared.Comparison.TheVariants.{ABetter, BBetter, ABetterByTopology, BBetterByTopology, Error1, Error2}
-use Rattle.decide.specs.declared.Erbest.TheVariants.{Absent, Present}
 use Rattle.decide.specs.declared.Decision.TheVariants.{M1, M2, M3, P1, P2, S1, S2}
-use Rattle.decide.specs.declared.Answer.{Answer}
-use Rattle.decide.specs.declared.Answer.TheVariants.{Decided, Refused}
 use Rattle.decide.specs.Comparing.{different_of, fewer_of, even_of, same_of, compare_of}
 use Rattle.decide.specs.Deciding.{set_of, own_beats, nearer_of, decide_of}
 use Rattle.decide.proofs.decide.Reads as decide
 use Rattle.decide.proofs.decide.Kinds as decide-kinds
+use Rattle.decide.specs.declared.Decision.{Decision}
+use Rattle.refusal.specs.declared.Refusal.{Refusal}
 
 -- a clock by its priority1, class and identity
 abbrev clock : ℕ → ℕ → ℕ → Grandmaster
@@ -99,69 +99,69 @@ abbrev weak : Grandmaster
 weak = clock 128 248 100
 
 -- on Ebest's port
-pub s1 : decide_of weak list 3 Absent ≡ Decided S1
+pub s1 : decide_of weak list 3 None ≡ Ok S1
 unfolding refuse own_beats nearer_of compare_of same_of fewer_of even_of different_of
 s1 = refl
 
 -- better by topology than the port's best: S2 for a port of the list, P2 for another
-pub s2 : decide_of weak list 4 (Present (cand (clock 1 248 7) 1 8 4)) ≡ Decided S2
+pub s2 : decide_of weak list 4 (Some (cand (clock 1 248 7) 1 8 4)) ≡ Ok S2
 unfolding refuse own_beats nearer_of compare_of same_of fewer_of even_of different_of
 s2 = refl
 
-pub p2 : decide_of weak list 5 (Present (cand (clock 1 248 7) 1 9 5)) ≡ Decided P2
+pub p2 : decide_of weak list 5 (Some (cand (clock 1 248 7) 1 9 5)) ≡ Ok P2
 unfolding refuse own_beats nearer_of compare_of same_of fewer_of even_of different_of
 p2 = refl
 
 -- an absent best is beaten, but not by topology; and an error beats nothing
-pub m3_absent : decide_of weak list 5 Absent ≡ Decided M3
+pub m3_absent : decide_of weak list 5 None ≡ Ok M3
 unfolding refuse own_beats nearer_of compare_of same_of fewer_of even_of different_of
 m3_absent = refl
 
-pub m3_error : decide_of weak list 1 (Present (cand (clock 1 248 7) 2 100 1)) ≡ Decided M3
+pub m3_error : decide_of weak list 1 (Some (cand (clock 1 248 7) 2 100 1)) ≡ Ok M3
 unfolding refuse own_beats nearer_of compare_of same_of fewer_of even_of different_of
 m3_error = refl
 
 -- no Ebest, or one that we beat
-pub m2_none : decide_of weak (pack []) 5 Absent ≡ Decided M2
+pub m2_none : decide_of weak (pack []) 5 None ≡ Ok M2
 unfolding refuse own_beats nearer_of compare_of same_of fewer_of even_of different_of
 m2_none = refl
 
-pub m2_beaten : decide_of (clock 0 248 100) list 3 Absent ≡ Decided M2
+pub m2_beaten : decide_of (clock 0 248 100) list 3 None ≡ Ok M2
 unfolding refuse own_beats nearer_of compare_of same_of fewer_of even_of different_of
 m2_beaten = refl
 
 -- our class is 1 to 127: M1 or P1. Class 0 and class 128 are not
-pub m1 : decide_of (clock 128 127 100) list 3 Absent ≡ Decided M1
+pub m1 : decide_of (clock 128 127 100) list 3 None ≡ Ok M1
 unfolding refuse own_beats nearer_of compare_of same_of fewer_of even_of different_of
 m1 = refl
 
-pub p1 : decide_of (clock 128 6 100) list 3 (Present ebest) ≡ Decided P1
+pub p1 : decide_of (clock 128 6 100) list 3 (Some ebest) ≡ Ok P1
 unfolding refuse own_beats nearer_of compare_of same_of fewer_of even_of different_of
 p1 = refl
 
-pub class_128 : decide_of (clock 128 128 100) list 3 Absent ≡ Decided S1
+pub class_128 : decide_of (clock 128 128 100) list 3 None ≡ Ok S1
 unfolding refuse own_beats nearer_of compare_of same_of fewer_of even_of different_of
 class_128 = refl
 
-pub class_0 : decide_of (clock 128 0 100) (pack []) 3 Absent ≡ Decided M2
+pub class_0 : decide_of (clock 128 0 100) (pack []) 3 None ≡ Ok M2
 unfolding refuse own_beats nearer_of compare_of same_of fewer_of even_of different_of
 class_0 = refl
 
 -- error-1 between our set and the port's best: it does not beat it
-pub p1_error : decide_of (clock 128 6 100) (pack []) 1 (Present (cand (clock 128 6 100) 1 100 1)) ≡ Decided P1
+pub p1_error : decide_of (clock 128 6 100) (pack []) 1 (Some (cand (clock 128 6 100) 1 100 1)) ≡ Ok P1
 unfolding refuse own_beats nearer_of compare_of same_of fewer_of even_of different_of
 p1_error = refl
 
 -- refused: the port first; a list that is not looked at too
-pub port_19 : decide_of weak (pack (ebest ∷ ebest ∷ [])) 19 Absent ≡ Refused Port
+pub port_19 : decide_of weak (pack (ebest ∷ ebest ∷ [])) 19 None ≡ Err Port
 unfolding refuse
 port_19 = refl
 
-pub unranked : decide_of (clock 128 6 100) (pack (ebest ∷ ebest ∷ [])) 3 Absent ≡ Refused Unranked
+pub unranked : decide_of (clock 128 6 100) (pack (ebest ∷ ebest ∷ [])) 3 None ≡ Err Unranked
 unfolding refuse
 unranked = refl
 
 -- ONE CONSTANT ANSWER is ruled out by the contract itself
-module _ (κs : Lfts 0) (r : Answer) (e f : AtExit (ended_of 0 decide-kinds.ps decide-kinds.r) κs) where
-  pub not_constant : decide.Post κs (weak, (list, (3, (Absent, tt)))) r e → decide.Post κs (weak, (list, (5, (Absent, tt)))) r f → ⊥
-  not_constant p q = let d : Decided S1 ≡ Decided M3 = sym s1 ∙ sym p ∙ q ∙ m3_absent in let z : ◌≡◌ {A = ℕ} 0 1 = cc in omega arith
+module _ (κs : Lfts 0) (r : Result Decision Refusal) (e f : AtExit (ended_of 0 decide-kinds.ps decide-kinds.r) κs) where
+  pub not_constant : decide.Post κs (weak, (list, (3, (None, tt)))) r e → decide.Post κs (weak, (list, (5, (None, tt)))) r f → ⊥
+  not_constant p q = let d : ◌≡◌ {A = Result Decision Refusal} (Ok S1) (Ok M3) = sym s1 ∙ sym p ∙ q ∙ m3_absent in let z : ◌≡◌ {A = ℕ} 0 1 = cc in omega arith

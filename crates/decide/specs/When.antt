@@ -1,16 +1,16 @@
 -- When deciding is refused, by its numbers, 0 where it is not (01, "Numbers that refuse": "Deciding: 8, 15."). In proofs/Exactly.antt the number given
 -- has its line here, and a line that holds is the number given.
-use Rattle.std.specs.Prelude.{ℕ, ◌≡◌, true, false}
+use Rattle.std.specs.Prelude.{ℕ, ◌≡◌, true, false, Result, Ok, Err}
 use Rattle.refusal.specs.Refusal.{number_of}
 use Rattle.rank.specs.declared.Ranked.{Ranked}
 use Rattle.rank.specs.Ranked.{is_port, is_ranked}
-use Rattle.decide.specs.declared.Answer.{Answer}
-use Rattle.decide.specs.declared.Answer.TheVariants.{Decided, Refused}
+use Rattle.decide.specs.declared.Decision.{Decision}
+use Rattle.refusal.specs.declared.Refusal.{Refusal}
 
 -- this page's number of the answer
-abbrev pub decided_code : Answer → ℕ
-decided_code (Decided d) = 0
-decided_code (Refused x) = number_of x
+abbrev pub decided_code : Result Decision Refusal → ℕ
+decided_code (Ok d) = 0
+decided_code (Err x) = number_of x
 
 pub data DecideWhen (list : Ranked) (port : ℕ) : ℕ → Type 0 where
   -- "port outside 1 to 18"

@@ -171,13 +171,6 @@ fn by_topology(x: Comparison) -> bool
     }
 }
 
-// A port's best, if it has one.
-#[derive(Clone, Copy)]
-pub enum Erbest {
-    Absent,
-    Present(Candidate),
-}
-
 // Whether our own set beats a candidate on port `port`.
 fn own_beats(own: Grandmaster, c: Candidate, port: u8) -> bool
     ensures { result ≡ own_beats own c port }
@@ -186,20 +179,20 @@ fn own_beats(own: Grandmaster, c: Candidate, port: u8) -> bool
 }
 
 // Whether our own set beats the best of port `port`; anything beats an absent one.
-fn beats_erbest(own: Grandmaster, port: u8, best: Erbest) -> bool
+fn beats_erbest(own: Grandmaster, port: u8, best: Option<Candidate>) -> bool
     ensures { result ≡ beats_erbest own port best }
 {
     match best {
-        Erbest::Absent => true,
-        Erbest::Present(c) => own_beats(own, c, port),
+        None => true,
+        Some(c) => own_beats(own, c, port),
     }
 }
 
 // Whether Ebest, the candidate `e`, is better by topology than the best of port `port`; not so where that is absent.
-fn nearer(e: Candidate, clock: u64, port: u8, best: Erbest) -> bool
+fn nearer(e: Candidate, clock: u64, port: u8, best: Option<Candidate>) -> bool
     ensures { result ≡ nearer_of e clock port best }
 {
-    let Erbest::Present(c) = best else {
+    let Some(c) = best else {
         return false;
     };
     by_topology(compare(set_of(e, clock, e.port), set_of(c, clock, port)))
@@ -244,7 +237,7 @@ pub fn leading(own: Grandmaster, list: Ranked) -> Lead
 }
 
 // The decision of port `port` where our class is one of 1 to 127.
-fn by_class(own: Grandmaster, port: u8, best: Erbest) -> Decision
+fn by_class(own: Grandmaster, port: u8, best: Option<Candidate>) -> Decision
     ensures { result ≡ by_class_of own port best }
 {
     if beats_erbest(own, port, best) {
@@ -254,7 +247,7 @@ fn by_class(own: Grandmaster, port: u8, best: Erbest) -> Decision
 }
 
 // The decision of port `port` where Ebest, the candidate `e`, leads; `listed` says whether the port is in the ranked list.
-fn by_ebest(e: Candidate, clock: u64, listed: bool, port: u8, best: Erbest) -> Decision
+fn by_ebest(e: Candidate, clock: u64, listed: bool, port: u8, best: Option<Candidate>) -> Decision
     ensures { result ≡ by_ebest_of e clock listed port best }
 {
     if e.port == port {
@@ -270,7 +263,7 @@ fn by_ebest(e: Candidate, clock: u64, listed: bool, port: u8, best: Erbest) -> D
 }
 
 // The decision of port `port`, a port of the clock, by the lead, and by whether the port is in the ranked list.
-pub fn led(own: Grandmaster, lead: Lead, listed: bool, port: u8, best: Erbest) -> Decision
+pub fn led(own: Grandmaster, lead: Lead, listed: bool, port: u8, best: Option<Candidate>) -> Decision
     ensures { result ≡ led_of own lead listed port best }
 {
     match lead {
@@ -281,7 +274,7 @@ pub fn led(own: Grandmaster, lead: Lead, listed: bool, port: u8, best: Erbest) -
 }
 
 // The decision of port `port`, a port of the clock, by a ranked list.
-fn rule(own: Grandmaster, list: Ranked, port: u8, best: Erbest) -> Decision
+fn rule(own: Grandmaster, list: Ranked, port: u8, best: Option<Candidate>) -> Decision
     ensures { result ≡ decision_of own (unpack list) port best }
 {
     let lead = leading(own, list);
@@ -289,22 +282,15 @@ fn rule(own: Grandmaster, list: Ranked, port: u8, best: Erbest) -> Decision
     led(own, lead, listed, port, best)
 }
 
-// What deciding answers.
-#[derive(Clone, Copy)]
-pub enum Answer {
-    Decided(Decision),
-    Refused(Refusal),
-}
-
 // The decision of port `port`: by our own clock, the ranked list of all ports, and the port's best.
-pub fn decide(own: Grandmaster, list: Ranked, port: u8, best: Erbest) -> Answer
+pub fn decide(own: Grandmaster, list: Ranked, port: u8, best: Option<Candidate>) -> Result<Decision, Refusal>
     ensures { result ≡ decide_of own list port best }
 {
     if !refusal::is_port(port) {
-        return Answer::Refused(Refusal::Port);
+        return Err(Refusal::Port);
     }
     if !rank::is_ranked(list) {
-        return Answer::Refused(Refusal::Unranked);
+        return Err(Refusal::Unranked);
     }
-    Answer::Decided(rule(own, list, port, best))
+    Ok(rule(own, list, port, best))
 }

@@ -1,4 +1,5 @@
 -- Exchanges at the edges, each computed: what the contract demands there.
+use Rattle.std.specs.Prelude.{Result, Ok, Err}
 use mathlib.Core.Path.{◌≡◌, refl}
 use mathlib.Core.List.{List, [], ◌∷◌, map}
 use Prim.Native.Nat.{ℕ, ◌+◌, ◌-◌, ◌*◌, ◌^◌}
@@ -10,11 +11,11 @@ use Rattle.delay.specs.declared.ScaledNs.{ScaledNs}
 use Rattle.delay.specs.declared.Corrections.{Corrections}
 use Rattle.delay.specs.declared.Latencies.{Latencies}
 use Rattle.delay.specs.declared.Exchange.{Exchange}
-use Rattle.delay.specs.declared.Measurement.{Measurement}
-use Rattle.delay.specs.declared.Measurement.TheVariants.{Measured, Refused}
 use Rattle.delay.specs.Delay.{t1, t2, t3, t4, M, D, in_ns, share, delay, offset, second}
 use Rattle.delay.specs.Range.{stamp_good, stamps_good, corrections_good, latencies_good, differences_good, inputs_good, in_range}
 use Rattle.delay.specs.Answer.{measure_of}
+use Rattle.delay.specs.declared.Offset.{Offset}
+use Rattle.refusal.specs.declared.Refusal.{Refusal}
 
 -- an exchange, its parts in short
 abbrev stamp : ℕ → ℕ → Stamp
@@ -46,11 +47,11 @@ abbrev pub fractions : ℕ → ℕ → Latencies → ℤ → Exchange
 fractions f g l a = exchange (stamp 0 0) (fine_stamp 0 0 f) (fine_stamp 0 0 g) (stamp 0 0) (corrections (pos 0) (pos 0) (pos 0)) l a
 
 -- an answer: the delay, whole seconds and rest of the offset
-abbrev pub answer : ℤ → ℤ → ℕ → Measurement
-answer d s r = Measured (ns d) (record { seconds = s; rest = r })
+abbrev pub answer : ℤ → ℤ → ℕ → Result (ScaledNs × Offset) Refusal
+answer d s r = Ok (ns d, record { seconds = s; rest = r })
 
-abbrev refused : Measurement
-refused = Refused Range
+abbrev refused : Result (ScaledNs × Offset) Refusal
+refused = Err Range
 
 -- "(10) a = 2^38, M - D = 10, other terms 0: delay 5"
 pub row10 : measure_of (fractions 10 0 (latencies 0 0 0 0) (pos (2 ^ 38))) ≡ answer (pos 5) (pos 0) 5
@@ -80,7 +81,7 @@ four_of_999 = refl
 abbrev limit : ℕ
 limit = 2 ^ 47
 
-abbrev cases : List (Exchange × Measurement)
+abbrev cases : List (Exchange × (Result (ScaledNs × Offset) Refusal))
 cases =
     (corrected (pos 0) (pos 0) (pos 0), answer (pos 0) (pos 0) 0)
     ∷ (fractions 3 0 (latencies 999 999 999 999) (pos 0), answer (pos 1) (pos 0) 2)
@@ -122,6 +123,6 @@ cases =
     ∷ (fractions 0 0 (latencies 0 0 0 (2 ^ 50)) (pos 0), refused)
     ∷ []
 
-pub limits : map (λ (c : Exchange × Measurement). measure_of c.0) cases ≡ map (λ (c : Exchange × Measurement). c.1) cases
+pub limits : map (λ (c : Exchange × (Result (ScaledNs × Offset) Refusal)). measure_of c.0) cases ≡ map (λ (c : Exchange × (Result (ScaledNs × Offset) Refusal)). c.1) cases
 unfolding t1 t2 t3 t4 share delay offset stamp_good stamps_good corrections_good latencies_good differences_good inputs_good in_range
 limits = refl

@@ -1,4 +1,5 @@
 -- Refused exactly when out of range: every exchange within the limits is measured, every other one is refused with 14, and no other number is given.
+use Rattle.std.specs.Prelude.{Ok, Err}
 use mathlib.Core.Path.{◌≡◌, refl, sym, ap, ◌∙◌}
 use mathlib.Core.Bool.{Bool, true, false}
 use mathlib.Core.Logic.{◌⊎◌, inl, inr}
@@ -10,14 +11,13 @@ use Rattle.signed.specs.Floor.{floor, rest}
 use Rattle.signed.proofs.Floors.{floor_rest, rest_below}
 use Rattle.refusal.specs.declared.Refusal.TheVariants.{Range}
 use Rattle.delay.specs.declared.Exchange.{Exchange}
-use Rattle.delay.specs.declared.Measurement.TheVariants.{Measured, Refused}
 use Rattle.delay.specs.Delay.{delay, offset, second, in_seconds}
 use Rattle.delay.specs.Range.{in_range, InRange}
 use Rattle.delay.specs.Answer.{measure_of, code_of, values_of}
 use Rattle.delay.proofs.Ranges.{range_told, range_yes}
 
 module _ (x : Exchange) where
-  pub measured : InRange x → measure_of x ≡ Measured (record { 0 = delay x }) (in_seconds (offset x))
+  pub measured : InRange x → measure_of x ≡ Ok (record { 0 = delay x }, in_seconds (offset x))
   measured h = simp (range_yes h)
 
   -- its number and its values
@@ -32,10 +32,10 @@ module _ (x : Exchange) where
   pub offset_rest : rest (offset x) second < second
   offset_rest = rest_below (offset x) second (omega arith)
 
-  pub refused : (InRange x → ⊥) → measure_of x ≡ Refused Range
+  pub refused : (InRange x → ⊥) → measure_of x ≡ Err Range
   refused n = go (in_range x) refl
     where
-      go : (t : Bool) → in_range x ≡ t → measure_of x ≡ Refused Range
+      go : (t : Bool) → in_range x ≡ t → measure_of x ≡ Err Range
       go true e = absurd (n (range_told x e))
       go false e = simp e
 

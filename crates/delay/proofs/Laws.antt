@@ -1,4 +1,5 @@
 -- Laws of the numbers that the code works with.
+use Rattle.std.specs.Prelude.{Some}
 use mathlib.Core.Path.{◌≡◌, sym, ap, ◌∙◌}
 use Prim.Native.Nat.{ℕ, ◌+◌, ◌-◌, ◌*◌, ◌/◌, ◌%◌, ◌^◌, ◌≤◌, ◌<◌}
 use native.Mathlib.Omega.{arith}
@@ -10,7 +11,6 @@ use Rattle.signed.proofs.Parts.{up, dn, ext, parts, nat_of, add_law, sub_law, mu
 use Rattle.signed.proofs.Floors.{floor_moved, rest_moved}
 use Rattle.signed.proofs.Ranges.{within_parts}
 use Rattle.delay.specs.declared.Exchange.{Exchange}
-use Rattle.delay.specs.declared.Span.TheVariants.{At}
 use Rattle.delay.specs.Delay.{t1, t2, t3, t4, M, share, second}
 use Rattle.delay.specs.Inside.{SpanIs, MIs}
 
@@ -38,7 +38,7 @@ same_gap k l m n e =
     ext (pos k -ℤ pos l) (pos m -ℤ pos n) (omega arith)
 
 -- a difference of two numbers that are within their limit and raised by 2^47, raised by 2^48
-pub difference_is : (y z : ℤ) (m n : ℕ) → SpanIs y (At m) → SpanIs z (At n) → pos (m + 2 ^ 48 - n) ≡ (y -ℤ z) +ℤ pos (2 ^ 48)
+pub difference_is : (y z : ℤ) (m n : ℕ) → SpanIs y (Some m) → SpanIs z (Some n) → pos (m + 2 ^ 48 - n) ≡ (y -ℤ z) +ℤ pos (2 ^ 48)
 difference_is y z m n d e =
     let p = raised_is y m d.0 d.1 in
     let q = raised_is z n e.0 e.1 in
@@ -80,7 +80,7 @@ seconds_is z s1 s2 w e =
     (ext (pos (s2 + w / second) -ℤ pos (s1 + 64)) (floor z (pos second)) (omega arith), sym (m ∙ r))
 
 -- M, raised by 2^48
-pub M-is : (x : Exchange) (m : ℕ) → MIs x (At m) → (m + dn (M x) ≡ up (M x) + 2 ^ 48) × (m < 2 ^ 49)
+pub M-is : (x : Exchange) (m : ℕ) → MIs x (Some m) → (m + dn (M x) ≡ up (M x) + 2 ^ 48) × (m < 2 ^ 49)
 M-is x m h =
     let o = within_parts 47 (t4 x -ℤ t1 x) h.0.outer in
     let i = within_parts 47 (t3 x -ℤ t2 x) h.0.inner in

@@ -1,5 +1,6 @@
 -- Clocks that are moved. Where the master's clock shows y more and the slave's z more, the delay stays and the offset grows by z - y: so the same time
 -- added to all four stamps changes nothing, and moving the slave's clock moves the offset by as much.
+use Rattle.std.specs.Prelude.{Ok}
 use mathlib.Core.Path.{◌≡◌, sym, ap, ◌∙◌, subst}
 use Prim.Native.Nat.{◌+◌}
 use native.Mathlib.Omega.{arith}
@@ -9,7 +10,6 @@ use Rattle.signed.proofs.Parts.{ext, parts, add_law, sub_law}
 use Rattle.delay.specs.declared.Corrections.{Corrections}
 use Rattle.delay.specs.declared.Asymmetry.{Asymmetry}
 use Rattle.delay.specs.declared.Exchange.{Exchange}
-use Rattle.delay.specs.declared.Measurement.TheVariants.{Measured}
 use Rattle.delay.specs.Delay.{coarse, fine, t1, t2, t3, t4, D, in_ns, share, delay, offset, in_seconds}
 use Rattle.delay.specs.Range.{StampsIn, CorrectionsIn, LatenciesIn, InRange}
 use Rattle.delay.specs.Answer.{measure_of}
@@ -124,8 +124,8 @@ module _ (y z : ℤ) (x w : Exchange) (h : Moved y z x w) where
       }
 
   -- the answer after the move, where no stamp has left its range
-  pub moved : StampsIn w.stamps → InRange x → measure_of w ≡ Measured (record { 0 = delay x }) (in_seconds (offset x +ℤ (z -ℤ y)))
-  moved s r = measured w (range_moved s r) ∙ (λ i. Measured (record { 0 = delay_same i }) (in_seconds (offset_moved i)))
+  pub moved : StampsIn w.stamps → InRange x → measure_of w ≡ Ok (record { 0 = delay x }, in_seconds (offset x +ℤ (z -ℤ y)))
+  moved s r = measured w (range_moved s r) ∙ (λ i. Ok (record { 0 = delay_same i }, in_seconds (offset_moved i)))
 
 -- the same time added to all four stamps changes neither delay nor offset
 pub same_time_added : (y : ℤ) (x w : Exchange) → Moved y y x w → StampsIn w.stamps → InRange x → measure_of w ≡ measure_of x
@@ -133,12 +133,12 @@ same_time_added y x w h s r =
     let l = sub_law y y in
     let m = add_law (offset x) (y -ℤ y) in
     let e : offset x +ℤ (y -ℤ y) ≡ offset x = ext (offset x +ℤ (y -ℤ y)) (offset x) (omega arith) in
-    moved y y x w h s r ∙ ap (λ (o : ℤ). Measured (record { 0 = delay x }) (in_seconds o)) e ∙ sym (measured x r)
+    moved y y x w h s r ∙ ap (λ (o : ℤ). Ok (record { 0 = delay x }, in_seconds o)) e ∙ sym (measured x r)
 
 -- the slave's clock moved by z moves the offset by z, and leaves the delay
 pub slave_moved : (z : ℤ) (x w : Exchange) → Moved (pos 0) z x w → StampsIn w.stamps → InRange x
-    → measure_of w ≡ Measured (record { 0 = delay x }) (in_seconds (offset x +ℤ z))
+    → measure_of w ≡ Ok (record { 0 = delay x }, in_seconds (offset x +ℤ z))
 slave_moved z x w h s r =
     let l = sub_law z (pos 0) in
     let e : z -ℤ pos 0 ≡ z = ext (z -ℤ pos 0) z (omega arith) in
-    moved (pos 0) z x w h s r ∙ ap (λ (o : ℤ). Measured (record { 0 = delay x }) (in_seconds (offset x +ℤ o))) e
+    moved (pos 0) z x w h s r ∙ ap (λ (o : ℤ). Ok (record { 0 = delay x }, in_seconds (offset x +ℤ o))) e

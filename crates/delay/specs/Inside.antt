@@ -1,9 +1,7 @@
 -- What the code works with: signed numbers raised by a fixed amount, so that they are natural ones.
-use Rattle.std.specs.Prelude.{◌≡◌, false, ℕ, ◌+◌, ◌*◌, ◌^◌, ◌<◌, ℤ, pos, ◌+ℤ◌, ◌-ℤ◌}
+use Rattle.std.specs.Prelude.{◌≡◌, false, ℕ, ◌+◌, ◌*◌, ◌^◌, ◌<◌, ℤ, pos, ◌+ℤ◌, ◌-ℤ◌, Option, Some, None}
 use Rattle.signed.specs.Limits.{within, Within}
 use Rattle.delay.specs.declared.Time.{Time}
-use Rattle.delay.specs.declared.Span.{Span}
-use Rattle.delay.specs.declared.Span.TheVariants.{At, Out}
 use Rattle.delay.specs.declared.Exchange.{Exchange}
 use Rattle.delay.specs.Delay.{second, M, share}
 use Rattle.delay.specs.Range.{in_range, InRange}
@@ -23,14 +21,14 @@ pub record TimeIs (z : ℤ) (t : Time) : Type 0 where
   pub fair : Fair t
 
 -- z within its limit and raised by 2^47, or outside it
-abbrev pub SpanIs : ℤ → Span → Type 0
-SpanIs z (At n) = Within 47 z × (pos n ≡ z +ℤ pos (2 ^ 47))
-SpanIs z Out = within 47 z ≡ false
+abbrev pub SpanIs : ℤ → Option ℕ → Type 0
+SpanIs z (Some n) = Within 47 z × (pos n ≡ z +ℤ pos (2 ^ 47))
+SpanIs z None = within 47 z ≡ false
 
 -- M, raised by 2^48, of an exchange that is in range
-abbrev pub MIs : Exchange → Span → Type 0
-MIs x (At n) = InRange x × (pos n ≡ M x +ℤ pos (2 ^ 48))
-MIs x Out = in_range x ≡ false
+abbrev pub MIs : Exchange → Option ℕ → Type 0
+MIs x (Some n) = InRange x × (pos n ≡ M x +ℤ pos (2 ^ 48))
+MIs x None = in_range x ≡ false
 
 -- r is the share of z, and comes, as z does, raised by 2^49
 pub record ShareIs (a : ℤ) (z r : ℕ) : Type 0 where

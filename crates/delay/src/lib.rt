@@ -85,13 +85,6 @@ pub struct Offset {
     pub rest: u64,
 }
 
-// The delay and the offset, or why there are none.
-#[derive(Clone, Copy)]
-pub enum Measurement {
-    Measured(ScaledNs, Offset),
-    Refused(Refusal),
-}
-
 // One second in nanoseconds times 2^16.
 const SECOND: u64 = 65_536_000_000_000;
 
@@ -265,13 +258,6 @@ fn t4(x: Exchange) -> Time
     }
 }
 
-// A difference raised by a power of two, or one outside its limit.
-#[derive(Clone, Copy)]
-enum Span {
-    At(u64),
-    Out,
-}
-
 // How far s whole seconds are ahead of t; nothing where they are not.
 fn ahead(s: u64, t: u64) -> u64
     requires { s ≤ t + 32 }
@@ -284,20 +270,20 @@ fn ahead(s: u64, t: u64) -> u64
 }
 
 // over - under, raised by 2^47, where it lies strictly between -2^47 and 2^47.
-fn apart(over: u64, under: u64) -> Span
+fn apart(over: u64, under: u64) -> Option<u64>
     requires { over < 2 ^ 62 }
     ensures { SpanIs (pos over -ℤ pos under) result }
 {
     let top = over + TWO_47;
     if top <= under {
-        return Span::Out;
+        return None;
     }
     let n = top - under;
-    if n < TWO_48 { Span::At(n) } else { Span::Out }
+    if n < TWO_48 { Some(n) } else { None }
 }
 
 // a - b, raised by 2^47, where it lies strictly between -2^47 and 2^47. Mostly both are in the same second.
-fn between(a: Time, b: Time) -> Span
+fn between(a: Time, b: Time) -> Option<u64>
     requires { Fair a × Fair b }
     ensures { SpanIs (pos (time_of a) -ℤ pos (time_of b)) result }
 {
@@ -307,16 +293,16 @@ fn between(a: Time, b: Time) -> Span
         return apart(a.part, b.part);
     }
     if s + 32 < t {
-        return Span::Out;
+        return None;
     }
     if t + 32 < s {
-        return Span::Out;
+        return None;
     }
     apart(ahead(s, t) + a.part, ahead(t, s) + b.part)
 }
 
 // t4 - t1.
-fn outer(x: Exchange) -> Span
+fn outer(x: Exchange) -> Option<u64>
     requires { InputsIn x }
     ensures { SpanIs (t4 x -ℤ t1 x) result }
 {
@@ -324,7 +310,7 @@ fn outer(x: Exchange) -> Span
 }
 
 // t3 - t2.
-fn inner(x: Exchange) -> Span
+fn inner(x: Exchange) -> Option<u64>
     requires { InputsIn x }
     ensures { SpanIs (t3 x -ℤ t2 x) result }
 {
@@ -334,23 +320,23 @@ fn inner(x: Exchange) -> Span
 }
 
 // M = (t4 - t1) - (t3 - t2), raised by 2^48, where nothing is outside its limit.
-fn two_way(x: Exchange) -> Span
+fn two_way(x: Exchange) -> Option<u64>
     ensures { MIs x result }
 {
     let good = inputs_good(x);
     if !good {
-        return Span::Out;
+        return None;
     }
     let there = outer(x);
-    let Span::At(u) = there else {
-        return Span::Out;
+    let Some(u) = there else {
+        return None;
     };
     let back = inner(x);
-    let Span::At(v) = back else {
-        return Span::Out;
+    let Some(v) = back else {
+        return None;
     };
     let m = u + TWO_48 - v;
-    Span::At(m)
+    Some(m)
 }
 
 // The sum of four latencies.
@@ -396,7 +382,7 @@ fn share(a: Asymmetry, z: u64) -> u64
 
 // The delay, raised by 2^49, of an exchange whose M comes raised by 2^48.
 fn delay_of(x: Exchange, m: u64) -> u64
-    requires { MIs x (Span.At m) }
+    requires { MIs x (Some m) }
     ensures { DelayIs (delay x) result }
 {
     let latencies = x.latencies;
@@ -454,15 +440,15 @@ fn offset_of(t2: Time, t1: Time, delay: u64) -> Offset
 }
 
 // The delay and the offset of an exchange, or 14 where a number is outside its limit.
-pub fn measure(x: Exchange) -> Measurement
+pub fn measure(x: Exchange) -> Result<(ScaledNs, Offset), Refusal>
     ensures { result ≡ measure_of x }
 {
     let way = two_way(x);
-    let Span::At(m) = way else {
-        return Measurement::Refused(Refusal::Range);
+    let Some(m) = way else {
+        return Err(Refusal::Range);
     };
     let delay = delay_of(x, m);
     let t2 = x.stamps.t2;
     let offset = offset_of(slave_time(t2), t1(x), delay);
-    Measurement::Measured(lowered(delay), offset)
+    Ok((lowered(delay), offset))
 }

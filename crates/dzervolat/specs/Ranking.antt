@@ -1,15 +1,11 @@
 -- What ranking, merging, deciding and comparing answer to words: the engine's answer to what the words hold, then 18 where a word's field cannot
 -- hold it.
-use Rattle.std.specs.Prelude.{ℕ, Bool, ◌&&◌, List, [], ◌∷◌}
+use Rattle.std.specs.Prelude.{ℕ, Bool, ◌&&◌, List, [], ◌∷◌, Option, Result, Ok}
 use Rattle.refusal.specs.Choice.{pick}
-use Rattle.refusal.specs.declared.Outcome.{Outcome}
-use Rattle.refusal.specs.declared.Outcome.TheVariants.{Done}
 use Rattle.rank.specs.declared.Ranking.{Ranking}
 use Rattle.rank.specs.Calls.{merge_of, ranking_of}
-use Rattle.decide.specs.declared.Answer.{Answer}
 use Rattle.decide.specs.Comparing.{compare_of}
 use Rattle.decide.specs.Deciding.{decide_of}
-use Rattle.election.specs.declared.Leader.{Leader}
 use Rattle.election.specs.Elected.{every_port, elected_of}
 use Rattle.election.specs.Decisions.{out_after, parent_of}
 use Rattle.words.specs.Words.{port_of}
@@ -17,6 +13,9 @@ use Rattle.candidate_words.specs.Candidates.{grandmaster_at, ranked_of, set_of, 
 use Rattle.candidate_words.specs.Fits.{grandmaster_fits, list_fits, set_fits, best_fits, run_fits, outcome_fitted, ranking_fitted, answer_fitted, leader_fitted}
 use Rattle.candidate_words.specs.Runs.{run_of}
 use Rattle.candidate_words.specs.Answers.{comparison_number}
+use Rattle.rank.specs.declared.Candidate.{Candidate}
+use Rattle.decide.specs.declared.Decision.{Decision}
+use Rattle.refusal.specs.declared.Refusal.{Refusal}
 
 -- "Ranking: 17, 8.", then 18
 abbrev pub ranked_run : List (List ℕ) → Ranking
@@ -31,7 +30,7 @@ abbrev pub decided_fits : List ℕ → List ℕ → List ℕ → Bool
 decided_fits own list best = (grandmaster_fits own 0 && list_fits list) && best_fits best
 
 -- "Deciding: 8, 15.", then 18
-abbrev pub decided_by : List ℕ → List ℕ → ℕ → List ℕ → Answer
+abbrev pub decided_by : List ℕ → List ℕ → ℕ → List ℕ → Result Decision Refusal
 decided_by own list port best =
     answer_fitted (decided_fits own list best) (decide_of (grandmaster_at own 0) (ranked_of list) (port_of port) (best_of best))
 
@@ -44,7 +43,7 @@ abbrev pub decisions_after : List ℕ → List ℕ → ℕ → List ℕ → List
 decisions_after own ports t out = pick (grandmaster_fits own 0) (out_after (grandmaster_at own 0) ports t out) out
 
 -- 15, then 18
-abbrev pub parent_in : List ℕ → List ℕ → Leader
+abbrev pub parent_in : List ℕ → List ℕ → Result (Option Candidate) Refusal
 parent_in own list = leader_fitted (grandmaster_fits own 0 && list_fits list) (parent_of (grandmaster_at own 0) (ranked_of list))
 
 -- the words of two data sets
@@ -52,8 +51,8 @@ abbrev pub sets_fit : List ℕ → List ℕ → Bool
 sets_fit a b = set_fits a && set_fits b
 
 -- a comparison refuses nothing else
-abbrev pub compared_of : List ℕ → List ℕ → Outcome
-compared_of a b = outcome_fitted (sets_fit a b) Done
+abbrev pub compared_of : List ℕ → List ℕ → Result (Unit {0}) Refusal
+compared_of a b = outcome_fitted (sets_fit a b) (Ok tt)
 
 -- its answer's number at exit
 abbrev pub compared_after : List ℕ → List ℕ → List ℕ → List ℕ

@@ -7,11 +7,10 @@ ghost use Rattle.refusal.specs.Refusal.{code_of};
 ghost use Rattle.candidate_words.specs.Answers.{ranking_words, decided_code, decided_words, leader_code, leader_words};
 ghost use Rattle.dzervolat.specs.Ranking.{ranked_run, merged_lists, decided_fits, decided_by, elected_by, decisions_after, parent_in, sets_fit, compared_of, compared_after};
 
+use decide::Decision;
 use candidate_words::{candidates, fits};
-use decide::Answer;
-use election::Leader;
-use rank::Ranking;
-use refusal::{Outcome, Refusal};
+use rank::{Candidate, Ranking};
+use refusal::Refusal;
 
 // The ranked list of a run of candidates, in any order, with repeats.
 #[unsafe(no_mangle)]
@@ -42,7 +41,7 @@ fn decided_fits(own: &[u64; 6], list: &[u64; 45], best: &[u64; 12]) -> bool
 }
 
 // The decision of a port, and whether the words fit.
-fn decided(own: &[u64; 6], list: &[u64; 45], port: u64, best: &[u64; 12]) -> Answer
+fn decided(own: &[u64; 6], list: &[u64; 45], port: u64, best: &[u64; 12]) -> Result<Decision, Refusal>
     ensures { result ≡ decided_by own.now list.now port best.now }
 {
     let g = candidates::grandmaster_at(own, 0);
@@ -103,7 +102,7 @@ pub extern "C" fn dz_decide_all(
 }
 
 // The parent by our own quality and a list, and whether their words fit.
-fn parent(own: &[u64; 6], list: &[u64; 45]) -> Leader
+fn parent(own: &[u64; 6], list: &[u64; 45]) -> Result<Option<Candidate>, Refusal>
     ensures { result ≡ parent_in own.now list.now }
 {
     let g = candidates::grandmaster_at(own, 0);
@@ -139,7 +138,7 @@ pub extern "C" fn dz_compare(a: &[u64; 11], b: &[u64; 11], answer: &mut [u64; 1]
     ensures words { answer.new ≡ compared_after a.now b.now answer.old }
 {
     if !sets_fit(a, b) {
-        return refusal::code(Outcome::Refused(Refusal::Field));
+        return refusal::code(Err(Refusal::Field));
     }
     let x = candidates::set_of(a);
     let y = candidates::set_of(b);

@@ -7,7 +7,8 @@ ghost use Rattle.contents.specs.Tlvs.{next_in};
 ghost use Rattle.origin.specs.Origin.{origin_check, origin_in};
 ghost use Rattle.message_words.specs.Answers.{read_code, read_words, tail_words, tlv_code, tlv_words, walked_code, walked_words, suffix_code, suffix_words, link_code, link_words, origin_words};
 
-use refusal::Outcome;
+use refusal::Refusal;
+
 
 // A message in twenty words, and where its tail begins and how long it is.
 #[unsafe(no_mangle)]
@@ -83,8 +84,8 @@ pub extern "C" fn dz_origin<'a>(
     ensures words { stamp.new ≡ origin_words (origin_check magic sync.now follow.now) (origin_in magic sync.now follow.now) stamp.old }
 {
     match origin::origin_says(sync, follow, magic) {
-        Outcome::Refused(x) => refusal::answer(x),
-        Outcome::Done => {
+        Err(x) => refusal::answer(x),
+        Ok(()) => {
             message_words::answers::put_origin(stamp, origin::checked_origin(sync, follow));
             0
         }

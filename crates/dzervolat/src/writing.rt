@@ -6,15 +6,14 @@ ghost use Rattle.message_words.specs.Writing.{written_code, written_words};
 ghost use Rattle.dzervolat.specs.Writing.{words_written, words_buffer, is_signaling, link_written, link_buffer};
 
 use refusal::Refusal;
-use writer::writing::Written;
 
 // The message of twenty words and its tail.
-fn write(out: &mut [u8], message: &[u64; 20], tail: &[u8], magic: u16) -> Written
+fn write(out: &mut [u8], message: &[u64; 20], tail: &[u8], magic: u16) -> Result<usize, Refusal>
     ensures answer { result ≡ words_written magic message.now tail.now out.old }
     ensures buffer { out.new ≡ words_buffer magic message.now tail.now out.old }
 {
     if !message_words::is_whole(message) {
-        return Written::Refused(Refusal::Field);
+        return Err(Refusal::Field);
     }
     message_words::straight::write(out, message, tail, magic)
 }
@@ -46,12 +45,12 @@ fn is_signaling(message: &[u64; 20], link: &[u64; 6]) -> bool
 }
 
 // The Signaling of twenty words with one link message of six.
-fn write_link(out: &mut [u8], message: &[u64; 20], link: &[u64; 6], magic: u16) -> Written
+fn write_link(out: &mut [u8], message: &[u64; 20], link: &[u64; 6], magic: u16) -> Result<usize, Refusal>
     ensures answer { result ≡ link_written magic message.now link.now out.old }
     ensures buffer { out.new ≡ link_buffer magic message.now link.now out.old }
 {
     if !is_signaling(message, link) {
-        return Written::Refused(Refusal::Field);
+        return Err(Refusal::Field);
     }
     let h = message_words::header_of(message);
     let target = message_words::identity_at(message, 9);

@@ -1,12 +1,9 @@
 -- "Worked at the edges" (01): a row asks one of the definitions that the contracts cite, and says what it must answer.
-use Rattle.std.specs.Prelude.{ℕ, ◌^◌, ◌≡◌, List, [], ◌∷◌, true, false, ℤ, pos, negsuc, get_or}
+use Rattle.std.specs.Prelude.{ℕ, ◌^◌, ◌≡◌, List, [], ◌∷◌, true, false, ℤ, pos, negsuc, get_or, Some, Result, Ok, Err}
 use Rattle.refusal.specs.declared.Refusal.TheVariants.{Stale}
-use Rattle.refusal.specs.declared.Outcome.{Outcome}
-use Rattle.refusal.specs.declared.Outcome.TheVariants.{Done, Refused}
 use Rattle.tlv.specs.Faults.{fault_of}
 use Rattle.tlv.specs.declared.walk.Fault.TheVariants.{Broken}
 use Rattle.tlv.specs.Wr.{suffix_in}
-use Rattle.tlv.specs.declared.wr.Suffix.TheVariants.{Flags}
 use Rattle.rank.specs.Calls.{ranking_of, done_of}
 use Rattle.rank.specs.declared.Candidate.{Candidate}
 use Rattle.senders.specs.declared.Notice.{Notice}
@@ -18,8 +15,9 @@ use Rattle.decide.specs.declared.DataSet.{DataSet}
 use Rattle.decide.specs.declared.Comparison.TheVariants.{BBetter}
 use Rattle.delay.specs.Answer.{measure_of}
 use Rattle.delay.specs.declared.Exchange.{Exchange}
-use Rattle.delay.specs.declared.Measurement.{Measurement}
-use Rattle.delay.specs.declared.Measurement.TheVariants.{Measured}
+use Rattle.delay.specs.declared.Offset.{Offset}
+use Rattle.refusal.specs.declared.Refusal.{Refusal}
+use Rattle.delay.specs.declared.ScaledNs.{ScaledNs}
 
 -- a row: what is asked and what 01 says, of whatever type the answer is
 pub data Row : Type 1 where
@@ -56,7 +54,7 @@ abbrev pub window : ℕ
 window = window_of 0
 
 -- a port that heard one sequenceId, and what it answers to the next
-abbrev pub answer_to : ℕ → ℕ → Outcome
+abbrev pub answer_to : ℕ → ℕ → Result (Unit {0}) Refusal
 answer_to old new =
     outcome_of (plan_of (record { last = 0; e = 0; slots = record { notice = announced old; receipts = 1; newest = 0; older = 0 } ∷ [] }) 0 (announced new))
 
@@ -87,8 +85,8 @@ leaning fraction2 fraction3 =
     }
 
 -- a delay, and an offset below a second
-abbrev pub measured : ℤ → ℕ → Measurement
-measured delay rest = Measured (record { 0 = delay }) (record { seconds = pos 0; rest = rest })
+abbrev pub measured : ℤ → ℕ → Result (ScaledNs × Offset) Refusal
+measured delay rest = Ok (record { 0 = delay }, record { seconds = pos 0; rest = rest })
 
 abbrev pub none : List Candidate
 none = []
@@ -96,14 +94,14 @@ none = []
 -- THE TABLE
 abbrev pub table : List Row
 table =
-    row (suffix_in 0xABCD (suffix_of 0x0A)) (Flags 7)  -- (1)
-    ∷ row (fault_of 0xABCD (suffix_of 9)) (Broken 0)  -- (2): 6, and where
+    row (suffix_in 0xABCD (suffix_of 0x0A)) (Some 7)  -- (1)
+    ∷ row (fault_of 0xABCD (suffix_of 9)) (Err (Broken 0))  -- (2): 6, and where
     ∷ row (is_qualified window 4000000000 heard_twice) true  -- (3)
     ∷ row (is_qualified window 4000000001 heard_twice) false  -- (4)
     ∷ row (is_live window 5000000000 heard_twice) true  -- (5)
     ∷ row (is_live window 5000000001 heard_twice) false  -- (6)
-    ∷ row (answer_to 65535 0) Done  -- (7)
-    ∷ row (answer_to 0 32768) (Refused Stale)  -- (8)
+    ∷ row (answer_to 65535 0) (Ok tt)  -- (7)
+    ∷ row (answer_to 0 32768) (Err Stale)  -- (8)
     ∷ row (compare_of (away 65535) (away 0)) BBetter  -- (9)
     ∷ row (measure_of (leaning 10 0)) (measured (pos 5) 5)  -- (10): the offset is t2 less the delay
     ∷ row (measure_of (leaning 0 1)) (measured (negsuc 0) 1)  -- (11)

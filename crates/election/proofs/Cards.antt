@@ -1,5 +1,6 @@
 -- However the ports are spread over cards, and the cards' lists merged: the list at the top is the same, and with it
 -- every decision.
+use Rattle.std.specs.Prelude.{Ok}
 use Prim.Native.Nat.{ℕ, suc, ◌*◌, ◌≤◌, ◌<◌}
 use mathlib.Core.Path.{◌≡◌, refl, sym, ap, ap₂, subst, ◌∙◌}
 use mathlib.Core.List.Memᴰ
@@ -21,7 +22,6 @@ use Rattle.slots.specs.Words.{slot_at}
 use Rattle.slots.proofs.Laws.{length_tab}
 use Rattle.ports.specs.Words.{own, port_at}
 use Rattle.ports.specs.Asking.{best_on}
-use Rattle.decide.specs.declared.Answer.TheVariants.{Decided}
 use Rattle.decide.specs.Deciding.{decide_of}
 use Rattle.election.specs.Elected.{every_port, any_late, heard_on, elected_of}
 use Rattle.election.specs.Decisions.{erbest_of, list_at, decision_at}
@@ -106,7 +106,7 @@ module _ (ws : List ℕ) (t : ℕ) where
 
     -- AND SO IS EVERY DECISION
     pub any_cards_decide : (own : Grandmaster) (i : ℕ) → i < 18
-        → decide_of own (gathered_of ws t c).list (suc i) (erbest_of (best_on ws (suc i) t)) ≡ Decided (decision_at own ws t (suc i))
+        → decide_of own (gathered_of ws t c).list (suc i) (erbest_of (best_on ws (suc i) t)) ≡ Ok (decision_at own ws t (suc i))
     unfolding elected_of refuse
     any_cards_decide own i h =
         let e : gathered_of ws t c ≡ done_of (list_at ws t) = any_cards ∙ rw none in

@@ -1,5 +1,6 @@
 -- Deciding every port by the ranked list of all of them: nothing is refused here, the calls of a single port give the
 -- decisions that are defined, and so do the places of the candidates.
+use Rattle.std.specs.Prelude.{Option, Some, None, Result, Ok}
 use Prim.Native.Nat.{ℕ, suc, ◌<◌}
 use mathlib.Core.Path.{◌≡◌, refl, sym, ap, ap₂, subst, ◌∙◌}
 use mathlib.Core.List.{List, [], ◌∷◌, map}
@@ -10,7 +11,6 @@ use borrow.Author.Tests.{le-leb, eq-eqb}
 use Rattle.laws.proofs.Bools.{neither}
 use Rattle.refusal.specs.Choice.{pick, refuse}
 use Rattle.refusal.specs.declared.Refusal.TheVariants.{Backward}
-use Rattle.refusal.specs.declared.Outcome.TheVariants.{Done}
 use Rattle.rank.specs.declared.Grandmaster.{Grandmaster}
 use Rattle.rank.specs.declared.Candidate.{Candidate}
 use Rattle.rank.specs.declared.Ranked.{Ranked}
@@ -18,7 +18,6 @@ use Rattle.rank.specs.Ranked.{is_port, pack, unpack, holds_of, is_ranked}
 use Rattle.rank.specs.Calls.{refused_of}
 use Rattle.rank.proofs.Best.{All, cases}
 use Rattle.rank.proofs.Merging.{AllValid, unpack_pack, ranked_valid, ranked_passes}
-use Rattle.senders.specs.declared.Asked.{Asked}
 use Rattle.senders.specs.Port.{tab, best_of}
 use Rattle.slots.proofs.Laws.{tab_ext, get_d_tab}
 use Rattle.slots.proofs.Cases.{Words64}
@@ -26,24 +25,21 @@ use Rattle.ports.specs.Words.{port_at}
 use Rattle.ports.specs.Asking.{best_on}
 use Rattle.ports.specs.Places.{place_on, candidate_at, found_at}
 use Rattle.ports.proofs.Placing.{best_at}
-use Rattle.decide.specs.declared.Erbest.{Erbest}
-use Rattle.decide.specs.declared.Erbest.TheVariants.{Absent}
-use Rattle.decide.specs.declared.Answer.{Answer}
-use Rattle.decide.specs.declared.Answer.TheVariants.{Decided}
 use Rattle.decide.specs.Deciding.{own_beats, beats_erbest, decision_of, decide_of}
 use Rattle.decide.specs.declared.Lead.{Lead}
 use Rattle.decide.specs.Leading.{lead_of, led_of}
 use Rattle.decide.proofs.ByLead.{led_is}
-use Rattle.election.specs.declared.Leader.TheVariants.{Ours, Master}
 use Rattle.election.specs.Elected.{every_port, any_late, heard_on, elected_of}
 use Rattle.election.specs.Decisions.{code_of, erbest_of, list_at, decision_at, octets_at, out_after, leads, parent_of, followed_by, chosen_by}
 use Rattle.election.specs.Places.{gather, places_at, listed_in, octet_by}
 use Rattle.election.proofs.Electing.{all_tab, every_port_lem, heard_valid}
 use Rattle.election.proofs.Gathering.{listed_holds, gathered}
+use Rattle.decide.specs.declared.Decision.{Decision}
+use Rattle.refusal.specs.declared.Refusal.{Refusal}
 
 -- a port of the clock and a ranked list: decided
-pub decides : (own : Grandmaster) (list : Ranked) (port : ℕ) (best : Erbest) → is_port port ≡ true → is_ranked list ≡ true
-    → decide_of own list port best ≡ Decided (decision_of own (unpack list) port best)
+pub decides : (own : Grandmaster) (list : Ranked) (port : ℕ) (best : Option Candidate) → is_port port ≡ true → is_ranked list ≡ true
+    → decide_of own list port best ≡ Ok (decision_of own (unpack list) port best)
 unfolding refuse
 decides own list port best h k = rw (h, k)
 
@@ -62,7 +58,7 @@ module _ (own : Grandmaster) (ws : List ℕ) (t : ℕ) where
   module _ (none : any_late ws t every_port ≡ false) where
     -- DECIDING REFUSES NOTHING HERE: each port is decided, and by its best
     pub decided : (i : ℕ) → i < 18
-        → decide_of own (pack (list_at ws t)) (suc i) (erbest_of (best_on ws (suc i) t)) ≡ Decided (decision_at own ws t (suc i))
+        → decide_of own (pack (list_at ws t)) (suc i) (erbest_of (best_on ws (suc i) t)) ≡ Ok (decision_at own ws t (suc i))
     unfolding decision_at refuse
     decided i h =
         let p = all_tab (λ p. is_port p ≡ true) 18 suc every_port_lem i h in
@@ -85,7 +81,7 @@ module _ (own : Grandmaster) (ws : List ℕ) (t : ℕ) (words : Words64 ws) wher
       let l : listed_in (suc i) top ≡ holds_of (suc i) (list_at ws t) = listed_holds ws (suc i) top ∙ ap (holds_of (suc i)) (gathered ws t words) in
       let f = ap (found_at ws) a ∙ best_at (suc i) p ws t words in
       ap code_of
-      (ap (λ (b : Asked). led_of own lead (listed_in (suc i) top) (suc i) (erbest_of b)) f
+      (ap (λ (b : Result (Option Candidate) Refusal). led_of own lead (listed_in (suc i) top) (suc i) (erbest_of b)) f
       ∙ ap (λ (b : Bool). led_of own lead b (suc i) (erbest_of (best_of (suc i) (port_at ws (suc i)) t))) l
       ∙ ap (λ (x : Lead). led_of own x (holds_of (suc i) (list_at ws t)) (suc i) (erbest_of (best_of (suc i) (port_at ws (suc i)) t))) e
       ∙ led_is own (list_at ws t) (suc i) (erbest_of (best_of (suc i) (port_at ws (suc i)) t)))
@@ -115,9 +111,9 @@ module _ (ws : List ℕ) (t : ℕ) (late : Bool) (e : late ≡ any_late ws t eve
   unfolding elected_of refuse
   elected_late h = rw (sym e ∙ h)
 
-  pub elected_done : late ≡ false → (list : Ranked) → list ≡ pack (list_at ws t) → record { outcome = Done; list = list } ≡ elected_of ws t every_port
+  pub elected_done : late ≡ false → (list : Ranked) → list ≡ pack (list_at ws t) → record { outcome = (Ok tt); list = list } ≡ elected_of ws t every_port
   unfolding elected_of refuse
-  elected_done h list f = rw (sym e ∙ h) (ap (λ (r : Ranked). record { outcome = Done; list = r }) f)
+  elected_done h list f = rw (sym e ∙ h) (ap (λ (r : Ranked). record { outcome = (Ok tt); list = r }) f)
 
   pub out_left : late ≡ true → (own : Grandmaster) (out : List ℕ) → out ≡ out_after own ws t out
   out_left h own out = rw (sym e ∙ h)
@@ -127,8 +123,8 @@ module _ (ws : List ℕ) (t : ℕ) (late : Bool) (e : late ≡ any_late ws t eve
 
 -- ---- the parent
 -- the decision of Ebest's port, whatever the best of that port
-pub follows : (own : Grandmaster) (e : Candidate) (l : List Candidate) (best : Erbest)
-    → followed_by (decision_of own (e ∷ l) e.port best) e ≡ pick (leads own e) Ours (Master e)
+pub follows : (own : Grandmaster) (e : Candidate) (l : List Candidate) (best : Option Candidate)
+    → followed_by (decision_of own (e ∷ l) e.port best) e ≡ pick (leads own e) (Ok None) (Ok (Some e))
 unfolding leads
 follows own e l best =
     cases (leb 1 own.class && leb own.class 127)
@@ -140,12 +136,12 @@ follows own e l best =
 
 -- what `parent` makes of what deciding answers for Ebest's port
 pub chosen_parent : (own : Grandmaster) (list : Ranked) (e : Candidate) (l : List Candidate) → is_ranked list ≡ true → unpack list ≡ e ∷ l
-    → chosen_by (decide_of own list e.port Absent) e ≡ parent_of own list
+    → chosen_by (decide_of own list e.port None) e ≡ parent_of own list
 unfolding refuse
 chosen_parent own list e l h f =
     let v = subst AllValid f (ranked_valid list h) in
     let p : is_port e.port ≡ true = simp (le-leb 1 e.port v.0.0, le-leb e.port 18 v.0.1) in
-    ap (λ (a : Answer). chosen_by a e) (decides own list e.port Absent p h)
-    ∙ ap (λ (m : List Candidate). followed_by (decision_of own m e.port Absent) e) f
-    ∙ follows own e l Absent
+    ap (λ (a : Result Decision Refusal). chosen_by a e) (decides own list e.port None p h)
+    ∙ ap (λ (m : List Candidate). followed_by (decision_of own m e.port None) e) f
+    ∙ follows own e l None
     ∙ sym (rw (h, f))

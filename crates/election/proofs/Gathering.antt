@@ -1,4 +1,5 @@
 -- Putting one port's place after the other among the four best gives the places of the ranked list of all that the ports hear.
+use Rattle.std.specs.Prelude.{Some, None, Ok}
 use Prim.Native.Nat.{ℕ, zero, suc, ◌+◌, ◌≤◌, ◌<◌}
 use mathlib.Core.Path.{◌≡◌, refl, sym, ap, subst, ◌∙◌}
 use mathlib.Core.List.{List, [], ◌∷◌, ◌++◌, map, append-nil, append_assoc}
@@ -17,7 +18,6 @@ use Rattle.rank.specs.Ranked.{is_port, receiver_of, pack, holds_of}
 use Rattle.rank.proofs.Best.{Good, Under, Away, cases, rank_step, rank_good, rank_swap}
 use Rattle.rank.proofs.Order.{ordered}
 use Rattle.rank.proofs.Merging.{R, defined}
-use Rattle.senders.specs.declared.Asked.TheVariants.{Absent, Found}
 use Rattle.senders.specs.Port.{tab, candidates_of, head_of, best_of}
 use Rattle.slots.proofs.Laws.{length_tab}
 use Rattle.slots.proofs.Cases.{Words64}
@@ -157,11 +157,11 @@ map_take f (suc n) [] = refl
 map_take f (suc n) (x ∷ l) = ap (λ (m : List Candidate). f x ∷ m) (map_take f n l)
 
 -- of a port's best, if it has one
-head_none : (o : List Candidate) → head_of o ≡ Absent → o ≡ []
+head_none : (o : List Candidate) → head_of o ≡ Ok None → o ≡ []
 head_none [] h = refl
 head_none (x ∷ o) h = cc
 
-head_one : (p : ℕ) (o : List Candidate) (c : Candidate) → One p o → head_of o ≡ Found c → o ≡ c ∷ []
+head_one : (p : ℕ) (o : List Candidate) (c : Candidate) → One p o → head_of o ≡ Ok (Some c) → o ≡ c ∷ []
 head_one p [] c i h = cc
 head_one p (x ∷ []) c i h = let e : x ≡ c = cc in ap (λ (z : Candidate). z ∷ []) e
 head_one p (x ∷ y ∷ o) c i h = absurd i
@@ -329,10 +329,10 @@ module _ (ws : List ℕ) where
           let counts : R (b ++ s) ≡ R (s ++ candidates p) = sym (best_counts p (candidates p) s own) ∙ rank_swap earlier_of receiver_of ordered 4 (candidates p) s in
           cases (eqb a 0)
           (λ k.
-          let n : head_of b ≡ Absent = sym found ∙ rw k in
+          let n : head_of b ≡ Ok None = sym found ∙ rw k in
           rw k (e ∙ ap (λ (o : List Candidate). R (o ++ s)) (sym (head_none b n)) ∙ counts))
           (λ k.
-          let n : head_of b ≡ Found (c a) = sym found ∙ rw k in
+          let n : head_of b ≡ Ok (Some (c a)) = sym found ∙ rw k in
           rw k
           (put_rank a l s (below_place p i l h (eqb-false a 0 k)) e
           ∙ ap (λ (o : List Candidate). R (o ++ s)) (sym (head_one p b (c a) (one_best p (candidates p) own) n))

@@ -1,5 +1,6 @@
 -- NO DISTANT CLOCK COMES OUT (02, (iii)): of the candidates that calls hand out from a clock's words, whatever words are lent, none is
 -- 255 steps or more from its grandmaster. Ranking, merging and deciding by a list take what they are given.
+use Rattle.std.specs.Prelude.{Option, Some, None, Result, Ok, Err}
 use Prim.Native.Nat.{ℕ, ◌-◌, ◌<◌}
 use mathlib.Core.Path.{◌≡◌, sym, subst, ◌∙◌}
 use mathlib.Core.List.{List, [], ◌∷◌, map}
@@ -19,15 +20,12 @@ use Rattle.rank.proofs.Best.{All, cases, rank_all}
 use Rattle.rank.proofs.Order.{ordered}
 use Rattle.rank.proofs.Merging.{AllValid, defined, unpack_pack, all_append, both, valid_sound}
 use Rattle.senders.specs.declared.Record.{Record}
-use Rattle.senders.specs.declared.Asked.TheVariants.{Absent, Found}
 use Rattle.senders.specs.Record.{window_of, is_distant, is_qualified, candidate_of}
 use Rattle.senders.specs.Port.{Port, slot_of, kept, candidates_of, candidate_in, head_of, best_of}
 use Rattle.senders.proofs.Candidates.{candidates_valid}
 use Rattle.ports.specs.Words.{port_at}
 use Rattle.ports.specs.Asking.{candidate_on, best_on}
 use Rattle.ports.proofs.Laws.{asked_found}
-use Rattle.election.specs.declared.Leader as leader
-use Rattle.election.specs.declared.Leader.TheVariants.{Master}
 use Rattle.election.specs.Elected.{every_port, any_late, heard_on, elected_of}
 use Rattle.election.specs.Decisions.{parent_by, parent_of}
 use Rattle.election.proofs.Electing.{every_port_lem, best_first, heard_valid}
@@ -53,38 +51,38 @@ near_candidates : (port : ℕ) (p : Port) (t : ℕ) → All Near (candidates_of 
 unfolding candidates_of
 near_candidates port p t = near_kept port (window_of p.e) t p.slots
 
-near_in : (port : ℕ) (p : Port) (slot t : ℕ) (c : Candidate) → candidate_in port p slot t ≡ Found c → Near c
+near_in : (port : ℕ) (p : Port) (slot t : ℕ) (c : Candidate) → candidate_in port p slot t ≡ Ok (Some c) → Near c
 unfolding candidate_in
 near_in port p slot t c e =
     cases (is_qualified (window_of p.e) t (slot_of p slot))
     (λ q.
-    let f : Found (candidate_of port (slot_of p slot)) ≡ Found c = rw q at e in
+    let f : ◌≡◌ {A = Result (Option Candidate) Refusal} (Ok (Some (candidate_of port (slot_of p slot)))) (Ok (Some c)) = rw q at e in
     let same : candidate_of port (slot_of p slot) ≡ c = cc in
     subst Near same (near_record port (window_of p.e) t (slot_of p slot) q))
     (λ q.
-    let f : Absent ≡ Found c = rw q at e in
+    let f : ◌≡◌ {A = Result (Option Candidate) Refusal} (Ok None) (Ok (Some c)) = rw q at e in
     absurd (let z : ◌≡◌ {A = ℕ} 0 1 = cc in omega arith))
 
 -- ---- ranked lists
 near_rank : (s : List Candidate) → AllValid s → All Near s → All Near (rank_of s)
 near_rank s v h = subst (All Near) (defined s v) (rank_all earlier_of receiver_of ordered 4 Near s h)
 
-near_head : (l : List Candidate) (c : Candidate) → All Near l → head_of l ≡ Found c → Near c
+near_head : (l : List Candidate) (c : Candidate) → All Near l → head_of l ≡ Ok (Some c) → Near c
 near_head [] c h e = absurd (let z : ◌≡◌ {A = ℕ} 0 1 = cc in omega arith)
 near_head (x ∷ l) c h e =
     let same : x ≡ c = cc in
     subst Near same h.0
 
 -- ---- the calls
-not_master : (x : Refusal) (c : Candidate) → leader.TheVariants.Refused x ≡ Master c → ⊥
+not_master : (x : Refusal) (c : Candidate) → ◌≡◌ {A = Result (Option Candidate) Refusal} (Err x) (Ok (Some c)) → ⊥
 not_master x c e = let z : ◌≡◌ {A = ℕ} 0 1 = cc in omega arith
 
 -- what comes out of a clock's words at t
 pub record NoneDistant (own : Grandmaster) (ws : List ℕ) (t : ℕ) : Type 0 where
-  pub candidate : (port slot : ℕ) (c : Candidate) → candidate_on ws port slot t ≡ Found c → Near c
-  pub best : (port : ℕ) (c : Candidate) → best_on ws port t ≡ Found c → Near c
+  pub candidate : (port slot : ℕ) (c : Candidate) → candidate_on ws port slot t ≡ Ok (Some c) → Near c
+  pub best : (port : ℕ) (c : Candidate) → best_on ws port t ≡ Ok (Some c) → Near c
   pub listed : All Near (unpack (elected_of ws t every_port).list)
-  pub parent : (c : Candidate) → parent_of own (elected_of ws t every_port).list ≡ Master c → Near c
+  pub parent : (c : Candidate) → parent_of own (elected_of ws t every_port).list ≡ Ok (Some c) → Near c
 
 module _ (own : Grandmaster) (ws : List ℕ) (t : ℕ) where
   near_heard : (ps : List ℕ) → All Near (heard_on ws t ps)
@@ -92,7 +90,7 @@ module _ (own : Grandmaster) (ws : List ℕ) (t : ℕ) where
   near_heard [] = tt
   near_heard (p ∷ ps) = all_append Near (candidates_of p (port_at ws p) t) (heard_on ws t ps) (near_candidates p (port_at ws p) t) (near_heard ps)
 
-  near_best : (port : ℕ) (c : Candidate) → is_port port ≡ true → best_of port (port_at ws port) t ≡ Found c → Near c
+  near_best : (port : ℕ) (c : Candidate) → is_port port ≡ true → best_of port (port_at ws port) t ≡ Ok (Some c) → Near c
   near_best port c h e =
       let p = port_at ws port in
       let s = candidates_of port p t in
@@ -106,10 +104,10 @@ module _ (own : Grandmaster) (ws : List ℕ) (t : ℕ) where
       (λ e. rw e tt)
       (λ e. rw (e, unpack_pack l) (near_rank (heard_on ws t every_port) (heard_valid ws t every_port every_port_lem) (near_heard every_port)))
 
-  near_parent : (c : Candidate) → parent_of own (elected_of ws t every_port).list ≡ Master c → Near c
+  near_parent : (c : Candidate) → parent_of own (elected_of ws t every_port).list ≡ Ok (Some c) → Near c
   near_parent c e =
       let list = (elected_of ws t every_port).list in
-      let f = (passed (leader.TheVariants.Refused refusal.Unranked) (parent_by own (unpack list)) (Master c) (not (is_ranked list)) (not_master refusal.Unranked c) e).1 in
+      let f = (passed (Err refusal.Unranked) (parent_by own (unpack list)) (Ok (Some c)) (not (is_ranked list)) (not_master refusal.Unranked c) e).1 in
       (subst (All Near) (parent_first own (unpack list) c f) near_listed).0
 
   -- THEY ARE ALL NEAR

@@ -1,5 +1,6 @@
 -- What the clock is promised of its decisions: 11 comes exactly where a port's candidates are refused with it, one port at most is
 -- S1, and the parent is on that port.
+use Rattle.std.specs.Prelude.{Option, Some, None, Result, Ok, Err}
 use Prim.Native.Nat.{ℕ, suc, ◌-◌, ◌≤◌, ◌<◌}
 use mathlib.Core.Path.{◌≡◌, refl, sym, ap, subst, ◌∙◌}
 use mathlib.Core.List.{List, [], ◌∷◌}
@@ -12,7 +13,6 @@ use Rattle.refusal.specs.Choice.{pick, refuse}
 use Rattle.refusal.specs.Refusal as numbered
 use Rattle.refusal.specs.declared.Refusal.{Refusal}
 use Rattle.refusal.specs.declared.Refusal.TheVariants.{Port, Backward}
-use Rattle.refusal.specs.declared.Outcome.TheVariants as outcome
 use Rattle.rank.specs.declared.Grandmaster.{Grandmaster}
 use Rattle.rank.specs.declared.Candidate.{Candidate}
 use Rattle.rank.specs.declared.Ranking.{Ranking}
@@ -20,17 +20,14 @@ use Rattle.rank.specs.Ranked.{is_port, pack, holds_of}
 use Rattle.rank.specs.Calls.{refused_of}
 use Rattle.rank.proofs.Best.{cases}
 use Rattle.rank.proofs.Merging.{unpack_pack, port-sound, ranked_valid, AllValid}
-use Rattle.senders.specs.declared.Asked.TheVariants.{Refused, Absent, Found}
 use Rattle.senders.specs.Record.{window_of, is_qualified, candidate_of}
 use Rattle.senders.specs.Port.{slot_of, best_of, candidate_in}
 use Rattle.slots.proofs.Laws.{get_d_tab}
 use Rattle.ports.specs.Words.{port_at}
 use Rattle.ports.specs.Asking.{candidate_on}
-use Rattle.decide.specs.declared.Erbest.{Erbest}
 use Rattle.decide.specs.declared.Decision.{Decision}
 use Rattle.decide.specs.declared.Decision.TheVariants.{M1, M2, M3, P1, P2, S1, S2}
 use Rattle.decide.specs.Deciding.{own_beats, beats_erbest, nearer_of, decision_of}
-use Rattle.election.specs.declared.Leader.TheVariants.{Ours, Master}
 use Rattle.election.specs.Elected.{every_port, any_late, elected_of}
 use Rattle.election.specs.Decisions.{code_of, erbest_of, list_at, decision_at, octets_at, leads, parent_by, backups_of, followed_by}
 use Rattle.election.proofs.Electing.{Ports, all_tab, every_port_lem}
@@ -46,7 +43,7 @@ unlike {G} {d} {e} h q =
 -- the parent that is followed on port p
 pub record ParentOn (own : Grandmaster) (l : List Candidate) (p : ℕ) : Type 0 where
   pub master : Candidate
-  pub follows : parent_by own l ≡ Master master
+  pub follows : parent_by own l ≡ Ok (Some master)
   pub on : master.port ≡ p
 
 -- S1 is for Ebest's port alone
@@ -64,7 +61,7 @@ no_s1 true true e = unlike refl e
 no_s1 true false e = unlike refl (sym e)
 no_s1 false b e = unlike refl e
 
-followed_s1 : (d : Decision) (e x : Candidate) → followed_by d e ≡ Master x → (d ≡ S1) × (e ≡ x)
+followed_s1 : (d : Decision) (e x : Candidate) → followed_by d e ≡ Ok (Some x) → (d ≡ S1) × (e ≡ x)
 followed_s1 M1 e x h = (cc, cc)
 followed_s1 M2 e x h = (cc, cc)
 followed_s1 M3 e x h = (cc, cc)
@@ -75,7 +72,7 @@ followed_s1 P2 e x h = (cc, cc)
 
 module _ (own : Grandmaster) where
   -- WHERE A PORT IS S1 THERE IS A PARENT, AND IT IS ON THAT PORT
-  pub s1_parent : (l : List Candidate) (p : ℕ) (best : Erbest) → decision_of own l p best ≡ S1 → ParentOn own l p
+  pub s1_parent : (l : List Candidate) (p : ℕ) (best : Option Candidate) → decision_of own l p best ≡ S1 → ParentOn own l p
   s1_parent [] p best h =
       absurd (no_s1 (leb 1 own.class && leb own.class 127) (beats_erbest own p best) h)
   s1_parent (e ∷ l) p best h =
@@ -87,19 +84,19 @@ module _ (own : Grandmaster) where
       record { master = e; follows = sym (follows own e l best) ∙ ap (λ (d : Decision). followed_by d e) s; on = q }
 
   -- AND WHERE THERE IS A PARENT ITS PORT IS S1, whatever the best of the port
-  pub parent_s1 : (l : List Candidate) (x : Candidate) (best : Erbest) → parent_by own l ≡ Master x → decision_of own l x.port best ≡ S1
+  pub parent_s1 : (l : List Candidate) (x : Candidate) (best : Option Candidate) → parent_by own l ≡ Ok (Some x) → decision_of own l x.port best ≡ S1
   parent_s1 [] x best h = cc
   parent_s1 (e ∷ l) x best h =
       let f = followed_s1 (decision_of own (e ∷ l) e.port best) e x (follows own e l best ∙ h) in
       subst (λ (c : Candidate). decision_of own (e ∷ l) c.port best ≡ S1) f.1 f.0
 
   -- the parent is Ebest, and its backups the rest of the list
-  pub parent_first : (l : List Candidate) (x : Candidate) → parent_by own l ≡ Master x → l ≡ x ∷ backups_of l
+  pub parent_first : (l : List Candidate) (x : Candidate) → parent_by own l ≡ Ok (Some x) → l ≡ x ∷ backups_of l
   parent_first [] x h = cc
   parent_first (e ∷ l) x h = ap (λ (c : Candidate). c ∷ l) (parent_is h)
     where
-      parent_is : pick (leads own e) Ours (Master e) ≡ Master x → e ≡ x
-      parent_is h = cases (leads own e) (λ k. let z : Ours ≡ Master x = rw k at h in cc) (λ k. let z : Master e ≡ Master x = rw k at h in cc)
+      parent_is : pick (leads own e) (Ok None) (Ok (Some e)) ≡ Ok (Some x) → e ≡ x
+      parent_is h = cases (leads own e) (λ k. let z : ◌≡◌ {A = Result (Option Candidate) Refusal} (Ok None) (Ok (Some x)) = rw k at h in cc) (λ k. let z : ◌≡◌ {A = Result (Option Candidate) Refusal} (Ok (Some e)) (Ok (Some x)) = rw k at h in cc)
 
 -- ---- every port's decision at a time
 s1_code : (d : Decision) → code_of d ≡ 4 → d ≡ S1
@@ -127,13 +124,13 @@ module _ (own : Grandmaster) (ws : List ℕ) (t : ℕ) where
   one_s1 i k h g e f =
       let a = s1_octet i h e in
       let b = s1_octet k g f in
-      let m : Master a.master ≡ Master b.master = sym a.follows ∙ b.follows in
+      let m : ◌≡◌ {A = Result (Option Candidate) Refusal} (Ok (Some a.master)) (Ok (Some b.master)) = sym a.follows ∙ b.follows in
       let s : a.master ≡ b.master = cc in
       let p = sym a.on ∙ ap (λ (c : Candidate). c.port) s ∙ b.on in
       omega arith
 
   -- AND WHERE OUR OWN CLOCK DOES NOT LEAD THERE IS ONE: the parent's port is a port of the clock, and its octet S1's
-  pub parent_octet : (x : Candidate) → parent_by own (list_at ws t) ≡ Master x
+  pub parent_octet : (x : Candidate) → parent_by own (list_at ws t) ≡ Ok (Some x)
       → (0 < x.port) × (x.port ≤ 18) × (get_or (octets_at own ws t) (x.port - 1) 0 ≡ 4)
   unfolding decision_at
   parent_octet x h =
@@ -152,7 +149,7 @@ module _ (own : Grandmaster) (ws : List ℕ) (t : ℕ) where
 -- a port whose candidates are refused with 11
 pub record Late (ws : List ℕ) (t : ℕ) : Type 0 where
   pub port : ℕ
-  pub refused : (slot : ℕ) → candidate_on ws port slot t ≡ Refused Backward
+  pub refused : (slot : ℕ) → candidate_on ws port slot t ≡ Err Backward
 
 -- "11", or nothing
 pub data ElectWhen (ws : List ℕ) (t : ℕ) : ℕ → Type 0 where
@@ -160,7 +157,7 @@ pub data ElectWhen (ws : List ℕ) (t : ℕ) : ℕ → Type 0 where
   elected : (Late ws t → ⊥) → ElectWhen ws t 0
 
 module _ (ws : List ℕ) (t : ℕ) where
-  late_when : (p slot : ℕ) → candidate_on ws p slot t ≡ Refused Backward → (is_port p ≡ true) × (ltb t (port_at ws p).last ≡ true)
+  late_when : (p slot : ℕ) → candidate_on ws p slot t ≡ Err Backward → (is_port p ≡ true) × (ltb t (port_at ws p).last ≡ true)
   unfolding candidate_in refuse
   late_when p slot h =
       cases (is_port p)
@@ -169,9 +166,9 @@ module _ (ws : List ℕ) (t : ℕ) where
       (λ l. (i, l))
       (λ l.
       cases (is_qualified (window_of (port_at ws p).e) t (slot_of (port_at ws p) slot))
-      (λ q. let z : Found (candidate_of p (slot_of (port_at ws p) slot)) ≡ Refused Backward = rw (i, l, q) at h in (i, cc))
-      (λ q. let z : Absent ≡ Refused Backward = rw (i, l, q) at h in (i, cc))))
-      (λ i. let z : Refused Port ≡ Refused Backward = rw i at h in (cc, cc))
+      (λ q. let z : ◌≡◌ {A = Result (Option Candidate) Refusal} (Ok (Some (candidate_of p (slot_of (port_at ws p) slot)))) (Err Backward) = rw (i, l, q) at h in (i, cc))
+      (λ q. let z : ◌≡◌ {A = Result (Option Candidate) Refusal} (Ok None) (Err Backward) = rw (i, l, q) at h in (i, cc))))
+      (λ i. let z : ◌≡◌ {A = Result (Option Candidate) Refusal} (Err Port) (Err Backward) = rw i at h in (cc, cc))
 
   late_in : (ps : List ℕ) → Ports ps → any_late ws t ps ≡ true → Late ws t
   unfolding any_late refuse
@@ -182,7 +179,7 @@ module _ (ws : List ℕ) (t : ℕ) where
       (λ l. late_in ps h.1 (rw l at e))
 
   -- WHERE A PORT'S CANDIDATES ARE REFUSED WITH 11, SO IS THE WHOLE
-  pub late_refuses : (p slot : ℕ) → candidate_on ws p slot t ≡ Refused Backward → elected_of ws t every_port ≡ refused_of Backward
+  pub late_refuses : (p slot : ℕ) → candidate_on ws p slot t ≡ Err Backward → elected_of ws t every_port ≡ refused_of Backward
   unfolding elected_of refuse
   late_refuses p slot h =
       let l = late_when p slot h in
@@ -197,12 +194,12 @@ module _ (ws : List ℕ) (t : ℕ) where
       cc)
 
   -- AND NOTHING ELSE IS REFUSED
-  pub refused_late : (x : Refusal) → (elected_of ws t every_port).outcome ≡ outcome.Refused x → (x ≡ Backward) × Late ws t
+  pub refused_late : (x : Refusal) → (elected_of ws t every_port).outcome ≡ Err x → (x ≡ Backward) × Late ws t
   unfolding elected_of refuse
   refused_late x h =
       cases (any_late ws t every_port)
-      (λ e. let z : outcome.Refused Backward ≡ outcome.Refused x = rw e at h in (cc, late_in every_port every_port_lem e))
-      (λ e. let z : outcome.Done ≡ outcome.Refused x = rw e at h in absurd (let y : ◌≡◌ {A = ℕ} 0 1 = cc in omega arith))
+      (λ e. let z : ◌≡◌ {A = Result (Unit {0}) Refusal} (Err Backward) (Err x) = rw e at h in (cc, late_in every_port every_port_lem e))
+      (λ e. let z : ◌≡◌ {A = Result (Unit {0}) Refusal} (Ok tt) (Err x) = rw e at h in absurd (let y : ◌≡◌ {A = ℕ} 0 1 = cc in omega arith))
 
   -- THE SAME BY ITS NUMBER: a line that holds is the number given, and the number given has its line
   pub when_elect : {n : ℕ} → ElectWhen ws t n → numbered.code_of (elected_of ws t every_port).outcome ≡ n

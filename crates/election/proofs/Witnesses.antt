@@ -1,4 +1,5 @@
 -- A clock that hears one master, computed: what it elects and decides, and when it refuses.
+use Rattle.std.specs.Prelude.{Ok}
 use Prim.Native.Nat.{ℕ, zero, suc}
 use mathlib.Core.Path.{◌≡◌, refl, ap, sym, subst}
 use mathlib.Core.List.{List, [], ◌∷◌}
@@ -10,7 +11,6 @@ use Rattle.rank.specs.Ranked.{rank_of}
 use Rattle.rank.specs.Calls.{refused_of, done_of}
 use Rattle.senders.specs.declared.Notice.{Notice}
 use Rattle.senders.specs.declared.Record.{Record}
-use Rattle.senders.specs.declared.Plan.TheVariants.{Put}
 use Rattle.senders.specs.Record.{fresh_of, next_of, candidate_of}
 use Rattle.senders.specs.Port.{tab, kept, candidates_of, best_of}
 use Rattle.slots.specs.Words.{words_after, words_of, record_of}
@@ -35,7 +35,7 @@ abbrev second : Record
 second = next_of (fresh_of 5 notice) 6 notice
 
 abbrev heard : List ℕ
-heard = words_after (words_after (tab 98 (λ i. 0)) 5 (Put 0 (fresh_of 5 notice))) 6 (Put 0 second)
+heard = words_after (words_after (tab 98 (λ i. 0)) 5 (Ok (0, fresh_of 5 notice))) 6 (Ok (0, second))
 
 abbrev clock : List ℕ
 clock = with fresh 2 heard

@@ -1,6 +1,6 @@
 -- Every port's decision, and the clock's parent (01, "Comparing and ranking": "Decisions, with Ebest first in the ranked
 -- list and Erbest a port's best").
-use Rattle.std.specs.Prelude.{ℕ, suc, List, [], ◌∷◌, Bool, not, ◌&&◌, ◌||◌, leb}
+use Rattle.std.specs.Prelude.{ℕ, suc, List, [], ◌∷◌, Bool, not, ◌&&◌, ◌||◌, leb, Option, Some, None, Result, Ok, Err}
 use Rattle.refusal.specs.Limits.{port_count}
 use Rattle.refusal.specs.Choice.{pick, refuse}
 use Rattle.refusal.specs.declared.Refusal.TheVariants.{Unranked}
@@ -8,20 +8,13 @@ use Rattle.rank.specs.declared.Grandmaster.{Grandmaster}
 use Rattle.rank.specs.declared.Candidate.{Candidate}
 use Rattle.rank.specs.declared.Ranked.{Ranked}
 use Rattle.rank.specs.Ranked.{rank_of, unpack, is_ranked}
-use Rattle.senders.specs.declared.Asked.{Asked}
-use Rattle.senders.specs.declared.Asked.TheVariants as asked
 use Rattle.senders.specs.Port.{tab, best_of}
 use Rattle.ports.specs.Words.{port_at}
-use Rattle.decide.specs.declared.Erbest.{Erbest}
-use Rattle.decide.specs.declared.Erbest.TheVariants.{Absent, Present}
 use Rattle.decide.specs.declared.Decision.{Decision}
 use Rattle.decide.specs.declared.Decision.TheVariants.{M1, M2, M3, P1, P2, S1, S2}
-use Rattle.decide.specs.declared.Answer.{Answer}
-use Rattle.decide.specs.declared.Answer.TheVariants as answer
 use Rattle.decide.specs.Deciding.{own_beats, decision_of}
-use Rattle.election.specs.declared.Leader.{Leader}
-use Rattle.election.specs.declared.Leader.TheVariants.{Refused, Ours, Master}
 use Rattle.election.specs.Elected.{every_port, any_late, heard_on}
+use Rattle.refusal.specs.declared.Refusal.{Refusal}
 
 -- a decision's number
 abbrev pub code_of : Decision → ℕ
@@ -34,10 +27,10 @@ code_of P1 = 6
 code_of P2 = 7
 
 -- "Erbest a port's best"
-abbrev pub erbest_of : Asked → Erbest
-erbest_of (asked.Refused x) = Absent
-erbest_of asked.Absent = Absent
-erbest_of (asked.Found c) = Present c
+abbrev pub erbest_of : Result (Option Candidate) Refusal → Option Candidate
+erbest_of (Err x) = None
+erbest_of (Ok None) = None
+erbest_of (Ok (Some c)) = Some c
 
 -- the ranked list of all ports' candidates at t
 abbrev pub list_at : List ℕ → ℕ → List Candidate
@@ -60,28 +53,28 @@ unfoldable pub leads : Grandmaster → Candidate → Bool
 leads own e = (leb 1 own.class && leb own.class 127) || own_beats own e e.port
 
 -- the parent: Ebest, unless there is none or our own clock leads; its backups are the rest of the list
-abbrev pub parent_by : Grandmaster → List Candidate → Leader
-parent_by own [] = Ours
-parent_by own (e ∷ l) = pick (leads own e) Ours (Master e)
+abbrev pub parent_by : Grandmaster → List Candidate → Result (Option Candidate) Refusal
+parent_by own [] = Ok None
+parent_by own (e ∷ l) = pick (leads own e) (Ok None) (Ok (Some e))
 
 abbrev pub backups_of : List Candidate → List Candidate
 backups_of [] = []
 backups_of (e ∷ l) = l
 
 -- "UNRANKED: a list to .. decide by is not a ranked list"
-abbrev pub parent_of : Grandmaster → Ranked → Leader
-parent_of own list = refuse (not (is_ranked list)) (Refused Unranked) (parent_by own (unpack list))
+abbrev pub parent_of : Grandmaster → Ranked → Result (Option Candidate) Refusal
+parent_of own list = refuse (not (is_ranked list)) (Err Unranked) (parent_by own (unpack list))
 
 -- by the decision of Ebest's port
-abbrev pub followed_by : Decision → Candidate → Leader
-followed_by M1 e = Ours
-followed_by M2 e = Ours
-followed_by M3 e = Ours
-followed_by S1 e = Master e
-followed_by S2 e = Ours
-followed_by P1 e = Ours
-followed_by P2 e = Ours
+abbrev pub followed_by : Decision → Candidate → Result (Option Candidate) Refusal
+followed_by M1 e = Ok None
+followed_by M2 e = Ok None
+followed_by M3 e = Ok None
+followed_by S1 e = Ok (Some e)
+followed_by S2 e = Ok None
+followed_by P1 e = Ok None
+followed_by P2 e = Ok None
 
-abbrev pub chosen_by : Answer → Candidate → Leader
-chosen_by (answer.Decided d) e = followed_by d e
-chosen_by (answer.Refused x) e = Refused x
+abbrev pub chosen_by : Result Decision Refusal → Candidate → Result (Option Candidate) Refusal
+chosen_by (Ok d) e = followed_by d e
+chosen_by (Err x) e = Err x

@@ -15,9 +15,9 @@ ghost use Rattle.election.specs.Places.{top_of, rank_among, put_at, grown_of, wi
 ghost use Rattle.refusal.specs.Limits.{port_count};
 ghost use Rattle.ports.specs.Words.{all_words};
 
-use decide::{Answer, Decision, Erbest, Lead};
+use decide::{Decision, Lead};
 use rank::{Candidate, Grandmaster, Ranked, Ranking};
-use refusal::{Outcome, Refusal};
+use refusal::Refusal;
 
 // The ports of the clock are numbered from 1 to this.
 const PORTS: u8 = refusal::PORTS as u8;
@@ -27,7 +27,7 @@ fn refused(x: Refusal) -> Ranking
     ensures { result ≡ refused_of x }
 {
     Ranking {
-        outcome: Outcome::Refused(x),
+        outcome: Err(x),
         list: rank::empty(),
     }
 }
@@ -174,7 +174,7 @@ fn elect_in(words: &[u64], t: u64) -> Ranking
     let mut places = [0usize; refusal::PORTS];
     let top = listen(words, t, &mut places[..]);
     Ranking {
-        outcome: Outcome::Done,
+        outcome: Ok(()),
         list: list_of(words, top),
     }
 }
@@ -220,14 +220,14 @@ fn listed(top: Top, p: u8) -> bool
 }
 
 // The candidate at a port's place, as deciding takes it.
-fn erbest(words: &[u64], a: usize) -> Erbest
+fn erbest(words: &[u64], a: usize) -> Option<Candidate>
     requires { (length words.now ≡ all_words) × Inside a }
     ensures { result ≡ erbest_of (found_at words.now a) }
 {
     if a == 0 {
-        return Erbest::Absent;
+        return None;
     }
-    Erbest::Present(ports::places::candidate(words, a))
+    Some(ports::places::candidate(words, a))
 }
 
 // The octet of port `p`, whose best is at `a`.
@@ -266,7 +266,7 @@ fn decide_in(words: &[u64], own: Grandmaster, t: u64, out: &mut [u8]) -> Ranking
     let lead = decide::leading(own, list);
     write(words, own, lead, top, &places[..], out);
     Ranking {
-        outcome: Outcome::Done,
+        outcome: Ok(()),
         list,
     }
 }
@@ -283,49 +283,41 @@ pub fn decide_all(
     decide_in(&words[..], own, t, &mut out[..])
 }
 
-// Whom the clock follows.
-#[derive(Clone, Copy)]
-pub enum Leader {
-    Refused(Refusal),
-    Ours,
-    Master(Candidate),
-}
-
 // The parent by the decision of Ebest's port: Ebest where it is S1.
-fn followed(d: Decision, e: Candidate) -> Leader
+fn followed(d: Decision, e: Candidate) -> Result<Option<Candidate>, Refusal>
     ensures { result ≡ followed_by d e }
 {
     match d {
-        Decision::M1 => Leader::Ours,
-        Decision::M2 => Leader::Ours,
-        Decision::M3 => Leader::Ours,
-        Decision::S1 => Leader::Master(e),
-        Decision::S2 => Leader::Ours,
-        Decision::P1 => Leader::Ours,
-        Decision::P2 => Leader::Ours,
+        Decision::M1 => Ok(None),
+        Decision::M2 => Ok(None),
+        Decision::M3 => Ok(None),
+        Decision::S1 => Ok(Some(e)),
+        Decision::S2 => Ok(None),
+        Decision::P1 => Ok(None),
+        Decision::P2 => Ok(None),
     }
 }
 
 // The same by what deciding answers.
-fn chosen(a: Answer, e: Candidate) -> Leader
+fn chosen(a: Result<Decision, Refusal>, e: Candidate) -> Result<Option<Candidate>, Refusal>
     ensures { result ≡ chosen_by a e }
 {
     match a {
-        Answer::Decided(d) => followed(d, e),
-        Answer::Refused(x) => Leader::Refused(x),
+        Ok(d) => followed(d, e),
+        Err(x) => Err(x),
     }
 }
 
 // The parent by a ranked list: Ebest, unless our own clock leads. Refused with 15 where the list is not a ranked list.
-pub fn parent(own: Grandmaster, list: Ranked) -> Leader
+pub fn parent(own: Grandmaster, list: Ranked) -> Result<Option<Candidate>, Refusal>
     ensures { result ≡ parent_of own list }
 {
     if !rank::is_ranked(list) {
-        return Leader::Refused(Refusal::Unranked);
+        return Err(Refusal::Unranked);
     }
     if list.len == 0 {
-        return Leader::Ours;
+        return Ok(None);
     }
     let e = list.slots[0];
-    chosen(decide::decide(own, list, e.port, Erbest::Absent), e)
+    chosen(decide::decide(own, list, e.port, None), e)
 }

@@ -1,12 +1,12 @@
 -- An exchange and its answer in words whose numbers are all different, written out: an exchange of two words breaks the table, also where definition and
 -- code are changed alike. include/dzervolat.h has the same order.
+use Rattle.std.specs.Prelude.{Ok}
 use Prim.Native.Nat.{ℕ}
 use mathlib.Core.Path.{◌≡◌, refl}
 use mathlib.Core.Bool.{true, false}
 use mathlib.Core.List.{List, [], ◌∷◌}
 use lib.IntN.{pos, negsuc}
 use Rattle.delay.specs.declared.Exchange.{Exchange}
-use Rattle.delay.specs.declared.Measurement.TheVariants.{Measured}
 use Rattle.exchange_words.specs.Exchanges.{exchange_of, exchange_fits, measured_words}
 
 abbrev pub words : List ℕ
@@ -32,7 +32,7 @@ exchange =
 pub record Words : Type 0 where
   pub exchange_in : exchange_of words ≡ exchange
   pub fits : exchange_fits words ≡ true
-  pub measured_out : measured_words (Measured (record { 0 = negsuc 0 }) (record { seconds = negsuc 1; rest = 3 })) [] ≡ 0xffffffffffffffff ∷ 0xfffffffffffffffe ∷ 3 ∷ []
+  pub measured_out : measured_words (Ok (record { 0 = negsuc 0 }, record { seconds = negsuc 1; rest = 3 })) [] ≡ 0xffffffffffffffff ∷ 0xfffffffffffffffe ∷ 3 ∷ []
 
 pub in_order : Words
 in_order = record { exchange_in = refl; fits = refl; measured_out = refl }

@@ -1,7 +1,7 @@
 -- An exchange in eighteen words: T1S T1N SYNC FOLLOW T2S T2N T2F T3S T3N T3F T4S T4N RESP MTX MRX STX SRX A. A number that is read is
 -- taken modulo the width of its field, and exchange_fits tells whether it is the number that stands there; signed ones are two's complement in 64 bits.
 -- Its delay and offset in three.
-use Rattle.std.specs.Prelude.{ℕ, ◌+◌, ◌%◌, Bool, not, ◌&&◌, List, [], ◌∷◌, ltb, get_or}
+use Rattle.std.specs.Prelude.{ℕ, ◌+◌, ◌%◌, Bool, not, ◌&&◌, List, [], ◌∷◌, ltb, get_or, Result, Ok, Err}
 use Rattle.std.specs.Int.{w64}
 use Rattle.std.proofs.Common.{to_z, of_z}
 use Rattle.refusal.specs.Choice.{refuse}
@@ -17,8 +17,8 @@ use Rattle.delay.specs.declared.Corrections.{Corrections}
 use Rattle.delay.specs.declared.Latencies.{Latencies}
 use Rattle.delay.specs.declared.Exchange.{Exchange}
 use Rattle.delay.specs.Answer.{measure_of}
-use Rattle.delay.specs.declared.Measurement.{Measurement}
-use Rattle.delay.specs.declared.Measurement.TheVariants.{Measured, Refused}
+use Rattle.delay.specs.declared.Offset.{Offset}
+use Rattle.refusal.specs.declared.Refusal.{Refusal}
 
 abbrev pub stamp_at : List ℕ → ℕ → Stamp
 stamp_at w at = record { seconds = get_or w at 0; nanos = get_or w (at + 1) 0 % 0x100000000 }
@@ -55,14 +55,14 @@ exchange_fits w =
     ((((ltb (get_or w 1 0) 0x100000000 && ltb (get_or w 5 0) 0x100000000) && ltb (get_or w 8 0) 0x100000000) && ltb (get_or w 11 0) 0x100000000) && ltb (get_or w 6 0) 65536) && ltb (get_or w 9 0) 65536
 
 -- "a number outside a limit of the delay section": also one that its field cannot hold
-abbrev pub measured_of : List ℕ → Measurement
-measured_of w = refuse (not (exchange_fits w)) (Refused Range) (measure_of (exchange_of w))
+abbrev pub measured_of : List ℕ → Result (ScaledNs × Offset) Refusal
+measured_of w = refuse (not (exchange_fits w)) (Err Range) (measure_of (exchange_of w))
 
-abbrev pub measured_code : Measurement → ℕ
-measured_code (Measured d o) = 0
-measured_code (Refused x) = number_of x
+abbrev pub measured_code : Result (ScaledNs × Offset) Refusal → ℕ
+measured_code (Ok (d, o)) = 0
+measured_code (Err x) = number_of x
 
 -- DELAY SECONDS REST
-abbrev pub measured_words : Measurement → List ℕ → List ℕ
-measured_words (Measured d o) out = of_z w64 d.0 ∷ of_z w64 o.seconds ∷ o.rest ∷ []
-measured_words (Refused x) out = out
+abbrev pub measured_words : Result (ScaledNs × Offset) Refusal → List ℕ → List ℕ
+measured_words (Ok (d, o)) out = of_z w64 d.0 ∷ of_z w64 o.seconds ∷ o.rest ∷ []
+measured_words (Err x) out = out

@@ -4,10 +4,7 @@
 ghost use Rattle.std.specs.Prelude.{◌≡◌, ◌+◌, ◌≤◌};
 ghost use Rattle.exchange_words.specs.Exchanges.{stamp_at, fine_at, ns_at, stamps_of, corrections_of, latencies_of, asymmetry_of, exchange_of, exchange_fits, measured_of, measured_code, measured_words};
 
-use delay::{
-    Asymmetry, Corrections, Exchange, FineStamp, Latencies, Measurement, ScaledNs, ScaledPs, Stamp,
-    Stamps,
-};
+use delay::{Asymmetry, Corrections, Exchange, FineStamp, Latencies, Offset, ScaledNs, ScaledPs, Stamp, Stamps};
 use refusal::Refusal;
 
 // A stamp of a message: seconds and nanoseconds.
@@ -109,23 +106,23 @@ fn exchange_fits(w: &[u64; 18]) -> bool
 }
 
 // What the exchange in eighteen words measures.
-pub fn measured(w: &[u64; 18]) -> Measurement
+pub fn measured(w: &[u64; 18]) -> Result<(ScaledNs, Offset), Refusal>
     ensures { result ≡ measured_of w.now }
 {
     if !exchange_fits(w) {
-        return Measurement::Refused(Refusal::Range);
+        return Err(Refusal::Range);
     }
     delay::measure(exchange_of(w))
 }
 
 // Delay, and the offset's whole seconds and its rest.
-pub fn put_measured(out: &mut [u64; 3], m: Measurement) -> u64
+pub fn put_measured(out: &mut [u64; 3], m: Result<(ScaledNs, Offset), Refusal>) -> u64
     ensures answer { result ≡ measured_code m }
     ensures words { out.new ≡ measured_words m out.old }
 {
     match m {
-        Measurement::Refused(x) => refusal::number(x),
-        Measurement::Measured(d, o) => {
+        Err(x) => refusal::number(x),
+        Ok((d, o)) => {
             let delay = octets::bits64(d.0);
             let seconds = octets::bits64(o.seconds);
             *out = [delay, seconds, o.rest];

@@ -1,4 +1,5 @@
 -- 20, 22 AND 16 EXACTLY WHEN 02, (vi), says so, in this order: the answer has its line in specs/When.antt, and a line that holds is the answer.
+use Rattle.std.specs.Prelude.{Result}
 use Prim.Native.Nat.{ℕ, ◌/◌}
 use mathlib.Core.Path.{◌≡◌, refl, sym, ap, subst, ◌∙◌}
 use mathlib.Core.List.{List, [], ◌∷◌}
@@ -11,18 +12,16 @@ use Rattle.laws.proofs.Bools.{both, cases}
 use Rattle.refusal.specs.Refusal.{code_of}
 use Rattle.refusal.specs.Limits.{second_nanos}
 use Rattle.refusal.specs.declared.Refusal.TheVariants.{Block}
-use Rattle.refusal.specs.declared.Outcome.{Outcome}
 use Rattle.refusal.proofs.Choice.{goes_on, refused}
-use Rattle.writer.specs.declared.writing.Written.{Written}
 use Rattle.block.specs.Layout.{Entry, entries_of}
 use Rattle.block.specs.Making.{All}
 use Rattle.playback.specs.Playback.{reader_of, accepts, is_trace}
-use Rattle.playback.specs.declared.Replayed.{Replayed}
 use Rattle.playback.specs.When.{replayed_code, BlockWhen, TraceWhen}
 use Rattle.playback.proofs.Exactly.{block_told, when_block, trace_told, when_trace, twenty, when_twenty}
 use Rattle.exporting.specs.Exporting.{capture_of, port_of, is_writable, are_writable, records_of, can_write, export_of, port_behind, export_block_of}
 use Rattle.exporting.specs.When.{written_code, Unfit, mixed, late, Fit, Some, first, later, ExportWhen, no_trace, unwritable, no_room, written, ExportBlockWhen, no_block, block_unwritable, block_written}
 use Rattle.exporting.proofs.Exported as exported
+use Rattle.refusal.specs.declared.Refusal.{Refusal}
 
 -- ---- RECORDS
 module _ (port : ℕ) where
@@ -75,7 +74,7 @@ module _ (trace : List ℕ) where
   trace_refused e = twenty trace (refused _ _ _ (ap not e))
 
   trace_accepted : is_trace trace ≡ true → TraceWhen trace 0
-  trace_accepted e = subst (λ (a : Replayed). TraceWhen trace (replayed_code a)) (goes_on _ _ _ (ap not e)) (trace_told trace)
+  trace_accepted e = subst (λ (a : Result ℕ Refusal). TraceWhen trace (replayed_code a)) (goes_on _ _ _ (ap not e)) (trace_told trace)
 
   is_trace_lem : TraceWhen trace 0 → is_trace trace ≡ true
   is_trace_lem w =
@@ -89,17 +88,17 @@ module _ (trace : List ℕ) where
   module _ (room : ℕ) where
     by : (t : Bool) → is_trace trace ≡ t → (w : Bool) → can_write trace ≡ w → (l : Bool) → ltb room octets ≡ l → ExportWhen room trace (written_code (export_of room trace))
     by false et w ew l el =
-        subst (λ (a : Written). ExportWhen room trace (written_code a)) (sym (exported.not_trace trace room et)) (no_trace (trace_refused et))
+        subst (λ (a : Result ℕ Refusal). ExportWhen room trace (written_code a)) (sym (exported.not_trace trace room et)) (no_trace (trace_refused et))
     by true et false ew l el =
-        subst (λ (a : Written). ExportWhen room trace (written_code a)) (sym (exported.not_written trace room et ew))
+        subst (λ (a : Result ℕ Refusal). ExportWhen room trace (written_code a)) (sym (exported.not_written trace room et ew))
         (unwritable (trace_accepted et) (some_unfit (port_of (records_of trace)) (records_of trace) ew))
     by true et true ew true el =
         let h = ltb-true room octets el in
-        subst (λ (a : Written). ExportWhen room trace (written_code a)) (sym (exported.no_room trace room et ew h))
+        subst (λ (a : Result ℕ Refusal). ExportWhen room trace (written_code a)) (sym (exported.no_room trace room et ew h))
         (no_room (trace_accepted et) (all_fit (port_of (records_of trace)) (records_of trace) ew) h)
     by true et true ew false el =
         let h = ltb-false room octets el in
-        subst (λ (a : Written). ExportWhen room trace (written_code a)) (sym (exported.exported trace room et ew h))
+        subst (λ (a : Result ℕ Refusal). ExportWhen room trace (written_code a)) (sym (exported.exported trace room et ew h))
         (written (trace_accepted et) (all_fit (port_of (records_of trace)) (records_of trace) ew) h)
 
     -- THE NUMBER GIVEN HAS ITS LINE ..
@@ -116,10 +115,10 @@ module _ (trace : List ℕ) where
 -- ---- A BLOCK
 module _ (rs s : List ℕ) where
   block_stopped : accepts (reader_of rs) s ≡ false → BlockWhen (reader_of rs) s 20
-  block_stopped e = subst (λ (o : Outcome). BlockWhen (reader_of rs) s (code_of o)) (refused _ _ _ (ap not e)) (block_told (reader_of rs) s)
+  block_stopped e = subst (λ (o : Result (Unit {0}) Refusal). BlockWhen (reader_of rs) s (code_of o)) (refused _ _ _ (ap not e)) (block_told (reader_of rs) s)
 
   block_accepted : accepts (reader_of rs) s ≡ true → BlockWhen (reader_of rs) s 0
-  block_accepted e = subst (λ (o : Outcome). BlockWhen (reader_of rs) s (code_of o)) (goes_on _ _ _ (ap not e)) (block_told (reader_of rs) s)
+  block_accepted e = subst (λ (o : Result (Unit {0}) Refusal). BlockWhen (reader_of rs) s (code_of o)) (goes_on _ _ _ (ap not e)) (block_told (reader_of rs) s)
 
   accepted : BlockWhen (reader_of rs) s 0 → accepts (reader_of rs) s ≡ true
   accepted w =
@@ -135,12 +134,12 @@ module _ (rs s : List ℕ) where
 
   block_by : (a : Bool) → accepts (reader_of rs) s ≡ a → (w : Bool) → are_writable (port_behind rs (entries_of s)) (entries_of s) ≡ w
       → ExportBlockWhen rs s (written_code (export_block_of rs s))
-  block_by false ea w ew = subst (λ (a : Written). ExportBlockWhen rs s (written_code a)) (sym (exported.not_accepted rs s ea)) (no_block (block_stopped ea))
+  block_by false ea w ew = subst (λ (a : Result ℕ Refusal). ExportBlockWhen rs s (written_code a)) (sym (exported.not_accepted rs s ea)) (no_block (block_stopped ea))
   block_by true ea false ew =
-      subst (λ (a : Written). ExportBlockWhen rs s (written_code a)) (sym (exported.block_unwritable rs s ea ew))
+      subst (λ (a : Result ℕ Refusal). ExportBlockWhen rs s (written_code a)) (sym (exported.block_unwritable rs s ea ew))
       (block_unwritable (block_accepted ea) (some_unfit (port_behind rs (entries_of s)) (entries_of s) ew))
   block_by true ea true ew =
-      subst (λ (a : Written). ExportBlockWhen rs s (written_code a)) (sym (exported.block_written rs s ea ew))
+      subst (λ (a : Result ℕ Refusal). ExportBlockWhen rs s (written_code a)) (sym (exported.block_written rs s ea ew))
       (block_written (block_accepted ea) (all_fit (port_behind rs (entries_of s)) (entries_of s) ew))
 
   -- THE NUMBER GIVEN HAS ITS LINE ..

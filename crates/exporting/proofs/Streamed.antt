@@ -1,5 +1,6 @@
 -- A TRACE IN ONE CALL AND BLOCK BY BLOCK AGREE: some block is refused on the way exactly where the trace is refused with 20 or 22, and where none is, the head
 -- and what is put for the blocks are the capture.
+use Rattle.std.specs.Prelude.{Result, Ok, Err}
 use Prim.Native.Nat.{ℕ, ◌+◌, ◌-◌, ◌≤◌, ◌<◌}
 use mathlib.Core.Path.{◌≡◌, refl, sym, ap, ◌∙◌}
 use mathlib.Core.List.{List, [], ◌∷◌, ◌++◌}
@@ -16,8 +17,6 @@ use Rattle.refusal.specs.Choice.{pick}
 use Rattle.refusal.specs.declared.Refusal.TheVariants.{Block, Export, Room}
 use Rattle.refusal.proofs.Limits.{port_bounds}
 use Rattle.stores.specs.Stores.{over}
-use Rattle.writer.specs.declared.writing.Written.{Written}
-use Rattle.writer.specs.declared.writing.Written.TheVariants.{Octets, Refused}
 use Rattle.block.specs.Layout.{Entry, count_of, port_at, entries_of}
 use Rattle.judging.specs.Tests.{laid_from, is_laid, reader_after}
 use Rattle.judging.specs.declared.Reader.{Reader}
@@ -30,6 +29,7 @@ use Rattle.exporting.specs.Streaming.{zero_words, is_written, put_by, writes_eac
 use Rattle.exporting.proofs.Packets.{packets_append, block_packets}
 use Rattle.exporting.proofs.Writable.{writable_append, first_of, first_port}
 use Rattle.exporting.proofs.Exported.{no_room, exported, not_accepted, block_unwritable, block_written}
+use Rattle.refusal.specs.declared.Refusal.{Refusal}
 
 -- ---- THE PORT
 -- that of the records before, or of the first one here
@@ -99,14 +99,14 @@ writes_is r port (b ∷ bs) =
     (λ y.
     cases (are_writable p (entries_of b))
     (λ z.
-    ap (λ (w : Written). is_written w && writes_each (lent_by w rs (words_of q p)) bs) (block_written rs b y z)
+    ap (λ (w : Result ℕ Refusal). is_written w && writes_each (lent_by w rs (words_of q p)) bs) (block_written rs b y z)
     ∙ writes_is q p bs
     ∙ sym (λ i. (y i && accepts_all q bs) && judged_on r port b bs y z i))
     (λ n.
-    ap (λ (w : Written). is_written w && writes_each (lent_by w rs (words_of q p)) bs) (block_unwritable rs b y n)
+    ap (λ (w : Result ℕ Refusal). is_written w && writes_each (lent_by w rs (words_of q p)) bs) (block_unwritable rs b y n)
     ∙ sym (ap (λ (t : Bool). (accepts r b && accepts_all q bs) && t) (judged_not r port b bs y n) ∙ and-false (accepts r b && accepts_all q bs))))
     (λ n.
-    ap (λ (w : Written). is_written w && writes_each (lent_by w rs (words_of q p)) bs) (not_accepted rs b n)
+    ap (λ (w : Result ℕ Refusal). is_written w && writes_each (lent_by w rs (words_of q p)) bs) (not_accepted rs b n)
     ∙ sym (ap (λ (t : Bool). (t && accepts_all q bs) && are_writable (port_from port es) es) n))
 
 -- ---- THE OCTETS
@@ -132,7 +132,7 @@ puts_is r port out (b ∷ bs) n a w =
     let l = accepted_laid r b y in
     cases (are_writable p (entries_of b))
     (λ z.
-    ap (λ (v : Written). put_by v (lent_by v out o) ++ put_each (lent_by v rs (words_of q p)) (lent_by v out o) bs) (block_written rs b y z)
+    ap (λ (v : Result ℕ Refusal). put_by v (lent_by v out o) ++ put_each (lent_by v rs (words_of q p)) (lent_by v out o) bs) (block_written rs b y z)
     ∙ (λ i. put_there out x i
     ++ puts_is q p o bs (put_long out x (omega (arith, block_packets b l)) ∙ n) k.1 (sym (judged_on r port b bs y z) ∙ w) i)
     ∙ sym (packets_append (entries_of b) (entries_of_all bs)))
@@ -149,7 +149,7 @@ module _ (s : List ℕ) where
   one_by_one out n t w = ap (head_in our_form our_fields) (puts_is fresh_reader 0 out (blocks_in s) n t w)
 
   -- so where the whole is refused with 20 or 22, some block is refused
-  pub refused_each : (room : ℕ) → (export_of room s ≡ Refused Block) ⊎ (export_of room s ≡ Refused Export) → writes_each zero_words (blocks_in s) ≡ false
+  pub refused_each : (room : ℕ) → (export_of room s ≡ Err Block) ⊎ (export_of room s ≡ Err Export) → writes_each zero_words (blocks_in s) ≡ false
   refused_each room e =
       cases (writes_each zero_words (blocks_in s))
       (λ y.
@@ -159,10 +159,10 @@ module _ (s : List ℕ) where
       (λ h. absurd (neither_done (exported s room k.0 k.1 (ltb-false _ _ h)) e)))
       (λ n. n)
     where
-      neither : {w : Written} → w ≡ Refused Room → (w ≡ Refused Block) ⊎ (w ≡ Refused Export) → ⊥
+      neither : {w : Result ℕ Refusal} → w ≡ Err Room → (w ≡ Err Block) ⊎ (w ≡ Err Export) → ⊥
       neither r (inl e) = let z : ◌≡◌ {A = ℕ} 0 1 = cc in omega arith
       neither r (inr e) = let z : ◌≡◌ {A = ℕ} 0 1 = cc in omega arith
 
-      neither_done : {w : Written} {n : ℕ} → w ≡ Octets n → (w ≡ Refused Block) ⊎ (w ≡ Refused Export) → ⊥
+      neither_done : {w : Result ℕ Refusal} {n : ℕ} → w ≡ Ok n → (w ≡ Err Block) ⊎ (w ≡ Err Export) → ⊥
       neither_done r (inl e) = let z : ◌≡◌ {A = ℕ} 0 1 = cc in omega arith
       neither_done r (inr e) = let z : ◌≡◌ {A = ℕ} 0 1 = cc in omega arith

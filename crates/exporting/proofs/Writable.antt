@@ -1,4 +1,5 @@
 -- Which records can be written, and what their packets weigh: by one record more, and by one block more. And the port that is written.
+use Rattle.std.specs.Prelude.{Option, Some, None}
 use Prim.Native.Nat.{ℕ, suc, ◌+◌, ◌-◌, ◌/◌, ◌≤◌, ◌<◌}
 use mathlib.Core.Path.{◌≡◌, refl, sym, ap, subst, ◌∙◌}
 use mathlib.Core.List.{List, [], ◌∷◌, ◌++◌, append-nil}
@@ -19,8 +20,6 @@ use Rattle.playback.specs.Playback.{entries_of_all, blocks_in, fresh_reader, is_
 use Rattle.playback.proofs.Blocks.{blocks_end, blocks_more, all_laid, AllLaid}
 use Rattle.pcap.specs.Written.{packets_in}
 use Rattle.exporting.specs.Exporting.{packets_of, port_of, is_writable, are_writable, weight_of, records_of}
-use Rattle.exporting.specs.declared.Weight.{Weight}
-use Rattle.exporting.specs.declared.Weight.TheVariants.{Unwritable, Octets}
 use Rattle.exporting.proofs.Packets.{packet_length, message_length, blocks_length}
 
 -- the nanoseconds of 2^32 seconds
@@ -37,21 +36,21 @@ writable_read s port at t its e p q = sym (e ∙ (λ i. eqb (p i) port && ltb (q
 
 -- ---- WHAT IS WEIGHED
 -- behind packets of so many octets
-abbrev pub weight_by : ℕ → ℕ → List Entry → Weight
-weight_by total port es = pick (are_writable port es) (Octets (total + length (packets_of es))) Unwritable
+abbrev pub weight_by : ℕ → ℕ → List Entry → Option ℕ
+weight_by total port es = pick (are_writable port es) (Some (total + length (packets_of es))) None
 
 pub weight_begin : (port : ℕ) (es : List Entry) → weight_by 0 port es ≡ weight_of port es
 unfolding weight_of
 weight_begin port es = rw zero-add
 
-pub weight_end : (total port : ℕ) → Octets total ≡ weight_by total port []
+pub weight_end : (total port : ℕ) → Some total ≡ weight_by total port []
 unfolding are_writable packets_in
 weight_end total port = rw add-zero
 
 -- of n records i are passed, and the next one begins at `at`
 module _ (s : List ℕ) (total port at n i : ℕ) (h : i < n) where
   -- it cannot be written
-  pub weight_stop : is_writable port (entry_at s at) ≡ false → Unwritable ≡ weight_by total port (entries_from (n - i) s at)
+  pub weight_stop : is_writable port (entry_at s at) ≡ false → None ≡ weight_by total port (entries_from (n - i) s at)
   unfolding entries_from are_writable
   weight_stop e =
       let k : n - i ≡ suc (n - (i + 1)) = omega arith in
@@ -67,23 +66,23 @@ module _ (s : List ℕ) (total port at n i : ℕ) (h : i < n) where
       let x = entry_at s at in
       let l : total + (end_at s at - at + 19) + length (packets_of es) ≡ total + length (packets_of (x ∷ es)) =
       omega (arith, message_length s at whole (omega arith), packet_length x.time x.message (packets_of es)) in
-      rw (is, k, e) (ap (λ (m : ℕ). pick (are_writable port es) (Octets m) Unwritable) l)
+      rw (is, k, e) (ap (λ (m : ℕ). pick (are_writable port es) (Some m) None) l)
 
 -- what was weighed
-picked_octets : (b : Bool) (m n : ℕ) → pick b (Octets m) Unwritable ≡ Octets n → (b ≡ true) × (m ≡ n)
+picked_octets : (b : Bool) (m n : ℕ) → pick b (Some m) None ≡ Some n → (b ≡ true) × (m ≡ n)
 picked_octets true m n e = (refl, cc)
 picked_octets false m n e = (cc, cc)
 
-picked_none : (b : Bool) (m : ℕ) → pick b (Octets m) Unwritable ≡ Unwritable → b ≡ false
+picked_none : (b : Bool) (m : ℕ) → pick b (Some m) None ≡ None → b ≡ false
 picked_none true m e = cc
 picked_none false m e = refl
 
 module _ (port : ℕ) (es : List Entry) where
-  pub weighs : (n : ℕ) → weight_of port es ≡ Octets n → (are_writable port es ≡ true) × (length (packets_of es) ≡ n)
+  pub weighs : (n : ℕ) → weight_of port es ≡ Some n → (are_writable port es ≡ true) × (length (packets_of es) ≡ n)
   unfolding weight_of
   weighs n e = picked_octets (are_writable port es) (length (packets_of es)) n e
 
-  pub weighs_none : weight_of port es ≡ Unwritable → are_writable port es ≡ false
+  pub weighs_none : weight_of port es ≡ None → are_writable port es ≡ false
   unfolding weight_of
   weighs_none e = picked_none (are_writable port es) (length (packets_of es)) e
 
@@ -96,18 +95,18 @@ writable_append port (e ∷ es) fs =
 
 module _ (total port : ℕ) (b : List ℕ) (bs : List (List ℕ)) where
   -- a block cannot be written
-  pub block_stop : weight_of port (entries_of b) ≡ Unwritable → Unwritable ≡ weight_by total port (entries_of_all (b ∷ bs))
+  pub block_stop : weight_of port (entries_of b) ≡ None → None ≡ weight_by total port (entries_of_all (b ∷ bs))
   unfolding entries_of_all
   block_stop e = rw (writable_append port (entries_of b) (entries_of_all bs), weighs_none port (entries_of b) e)
 
   -- it can be, and is weighed
-  pub block_more : (n : ℕ) → weight_of port (entries_of b) ≡ Octets n → weight_by (total + n) port (entries_of_all bs) ≡ weight_by total port (entries_of_all (b ∷ bs))
+  pub block_more : (n : ℕ) → weight_of port (entries_of b) ≡ Some n → weight_by (total + n) port (entries_of_all bs) ≡ weight_by total port (entries_of_all (b ∷ bs))
   unfolding entries_of_all
   block_more n e =
       let w = weighs port (entries_of b) n e in
       let l : total + n + length (packets_of (entries_of_all bs)) ≡ total + length (packets_of (entries_of b ++ entries_of_all bs)) =
       omega (arith, w.1, blocks_length b bs) in
-      rw (writable_append port (entries_of b) (entries_of_all bs), w.0) (ap (λ (m : ℕ). pick (are_writable port (entries_of_all bs)) (Octets m) Unwritable) l)
+      rw (writable_append port (entries_of b) (entries_of_all bs), w.0) (ap (λ (m : ℕ). pick (are_writable port (entries_of_all bs)) (Some m) None) l)
 
 -- ---- THE PORT
 -- of the first record of a block whose layout is right, before whatever follows

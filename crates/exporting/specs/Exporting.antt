@@ -1,21 +1,18 @@
 -- A trace written as a capture (02, (vi): "We write nanosecond, big-endian, snapshot length 65,535, other fields and addresses zero, and refuse a trace that
 -- mixes ports or has a time whose seconds exceed 32 bits."; "in writing 20 as in replay, 22 EXPORT for a trace we can't write; last, in both, 16 for too
 -- little room").
-use Rattle.std.specs.Prelude.{ℕ, ◌/◌, ◌%◌, List, [], ◌∷◌, map, Bool, true, not, ◌&&◌, eqb, ltb, length, get_or}
+use Rattle.std.specs.Prelude.{ℕ, ◌/◌, ◌%◌, List, [], ◌∷◌, map, Bool, true, not, ◌&&◌, eqb, ltb, length, get_or, Option, Some, None, Result, Ok, Err}
 use Rattle.refusal.specs.Choice.{pick, refuse}
 use Rattle.refusal.specs.Limits.{second_nanos}
 use Rattle.refusal.specs.declared.Refusal.TheVariants.{Block, Export, Room}
 use Rattle.octets.specs.Be.{octets_of}
 use Rattle.stores.specs.Stores.{over}
-use Rattle.writer.specs.declared.writing.Written.{Written}
-use Rattle.writer.specs.declared.writing.Written.TheVariants.{Octets, Refused}
 pub use Rattle.writer.specs.Writing.{lent_by}
 use Rattle.block.specs.Layout.{Entry, entries_of}
 use Rattle.judging.specs.Tests.{reader_after}
 use Rattle.playback.specs.Playback.{reader_of, accepts, blocks_in, entries_of_all, is_trace}
 use Rattle.pcap.specs.Written.{Packet, packets_in, head_in, our_form, our_fields, framed, our_packet}
-use Rattle.exporting.specs.declared.Weight.{Weight}
-use Rattle.exporting.specs.declared.Weight.TheVariants as weight
+use Rattle.refusal.specs.declared.Refusal.{Refusal}
 
 -- a message as a packet: its time, and its octets in a frame
 abbrev pub packet_for : ℕ → List ℕ → Packet
@@ -49,8 +46,8 @@ are_writable port [] = true
 are_writable port (e ∷ es) = is_writable port e && are_writable port es
 
 -- the octets of the packets, where they can be written
-unfoldable pub weight_of : ℕ → List Entry → Weight
-weight_of port es = pick (are_writable port es) (weight.Octets (length (packets_of es))) weight.Unwritable
+unfoldable pub weight_of : ℕ → List Entry → Option ℕ
+weight_of port es = pick (are_writable port es) (Some (length (packets_of es))) None
 
 -- ---- A WHOLE TRACE
 abbrev pub records_of : List ℕ → List Entry
@@ -59,12 +56,12 @@ records_of trace = entries_of_all (blocks_in trace)
 abbrev pub can_write : List ℕ → Bool
 can_write trace = are_writable (port_of (records_of trace)) (records_of trace)
 
-unfoldable pub export_of : ℕ → List ℕ → Written
+unfoldable pub export_of : ℕ → List ℕ → Result ℕ Refusal
 export_of room trace =
-    refuse (not (is_trace trace)) (Refused Block)
-    (refuse (not (can_write trace)) (Refused Export)
-    (refuse (ltb room (length (capture_of (records_of trace)))) (Refused Room)
-    (Octets (length (capture_of (records_of trace))))))
+    refuse (not (is_trace trace)) (Err Block)
+    (refuse (not (can_write trace)) (Err Export)
+    (refuse (ltb room (length (capture_of (records_of trace)))) (Err Room)
+    (Ok (length (capture_of (records_of trace))))))
 
 -- what was lent, afterwards: "octets past it stay"
 abbrev pub out_after_export : List ℕ → List ℕ → List ℕ
@@ -74,10 +71,10 @@ out_after_export out trace = lent_by (export_of (length out) trace) out (over ou
 abbrev pub port_behind : List ℕ → List Entry → ℕ
 port_behind rs es = pick (eqb (get_or rs 2 0) 0) (port_of es) (get_or rs 2 0)
 
-unfoldable pub export_block_of : List ℕ → List ℕ → Written
+unfoldable pub export_block_of : List ℕ → List ℕ → Result ℕ Refusal
 export_block_of rs s =
-    refuse (not (accepts (reader_of rs) s)) (Refused Block)
-    (refuse (not (are_writable (port_behind rs (entries_of s)) (entries_of s))) (Refused Export) (Octets (length (packets_of (entries_of s)))))
+    refuse (not (accepts (reader_of rs) s)) (Err Block)
+    (refuse (not (are_writable (port_behind rs (entries_of s)) (entries_of s))) (Err Export) (Ok (length (packets_of (entries_of s)))))
 
 abbrev pub reader_behind : List ℕ → List ℕ → List ℕ
 reader_behind rs s =

@@ -14,11 +14,9 @@ ghost use Rattle.playback.specs.Playback.{is_trace};
 ghost use Rattle.pcap.specs.Written.{packet_in, head_in, our_form, our_fields};
 ghost use Rattle.exporting.specs.Exporting.{packet_for, heads_of, packets_of, capture_of, port_of, weight_of, records_of, export_of, out_after_export, export_block_of, reader_behind, packets_behind};
 
-use judging::{Reader, Verdict};
+use judging::{Flaw, Reader};
 use pcap::{FRAME, PTP};
-use playback::Replayed;
 use refusal::Refusal;
-use writer::writing::Written;
 
 // The octets of a packet before the message of its frame.
 const BEFORE: usize = pcap::PACKET + FRAME;
@@ -34,13 +32,6 @@ pub const WORDS: usize = 3;
 
 // The octets that the packets of one block have at most: those of 45 records, which are all 496 that a block has for them, and 19 more for each.
 pub const MOST: usize = 1351;
-
-// The octets that packets have, or they cannot be written.
-#[derive(Clone, Copy)]
-pub enum Weight {
-    Unwritable,
-    Octets(usize),
-}
 
 // Writes the head of a capture.
 pub fn put_head(out: &mut [u8])
@@ -85,7 +76,7 @@ fn is_writable(t: u64, its: u8, port: u64) -> bool
 }
 
 // The octets of the packets of a block whose layout is right, where all its records can be written.
-fn weigh(s: &[u8], port: u64) -> Weight
+fn weigh(s: &[u8], port: u64) -> Option<usize>
     requires { is_laid s.now ≡ true }
     ensures { result ≡ weight_of port (entries_of s.now) }
 {
@@ -97,14 +88,14 @@ fn weigh(s: &[u8], port: u64) -> Weight
         let t = judging::time_at(s, at);
         let its = judging::port_at(s, at);
         if !is_writable(t, its, port) {
-            return Weight::Unwritable;
+            return None;
         }
         let end = judging::end_at(s, at);
         total += end - at + MORE;
         at = end;
         i += 1;
     }
-    Weight::Octets(total)
+    Some(total)
 }
 
 // Writes the packets of a block whose layout is right, from an octet on: where they end.
@@ -140,7 +131,7 @@ fn first_port(trace: &[u8]) -> u64
 }
 
 // The octets of the packets of a trace, where all its records can be written.
-fn weigh_all(trace: &[u8]) -> Weight
+fn weigh_all(trace: &[u8]) -> Option<usize>
     requires { is_trace trace.now ≡ true }
     ensures { result ≡ weight_of (port_of (records_of trace.now)) (records_of trace.now) }
 {
@@ -150,13 +141,13 @@ fn weigh_all(trace: &[u8]) -> Weight
     while at < trace.len() {
         let s = playback::part(trace, at);
         let w = weigh(s, port);
-        let Weight::Octets(n) = w else {
-            return Weight::Unwritable;
+        let Some(n) = w else {
+            return None;
         };
         total += n;
         at += s.len();
     }
-    Weight::Octets(total)
+    Some(total)
 }
 
 // Writes a trace that was looked at: the head, and the packets of all blocks.
@@ -175,23 +166,23 @@ fn put_all(out: &mut [u8], trace: &[u8])
 }
 
 // Writes a whole trace as a capture, or refuses it: how many octets that has.
-pub fn export(out: &mut [u8], trace: &[u8]) -> Written
+pub fn export(out: &mut [u8], trace: &[u8]) -> Result<usize, Refusal>
     ensures answer { result ≡ export_of (length out.old) trace.now }
     ensures octets { out.new ≡ out_after_export out.old trace.now }
 {
     let x = playback::judged(trace);
-    let Replayed::Until(_) = x else {
-        return Written::Refused(Refusal::Block);
+    let Ok(_) = x else {
+        return Err(Refusal::Block);
     };
     let w = weigh_all(trace);
-    let Weight::Octets(n) = w else {
-        return Written::Refused(Refusal::Export);
+    let Some(n) = w else {
+        return Err(Refusal::Export);
     };
     if out.len() < pcap::HEAD + n {
-        return Written::Refused(Refusal::Room);
+        return Err(Refusal::Room);
     }
     put_all(out, trace);
-    Written::Octets(pcap::HEAD + n)
+    Ok(pcap::HEAD + n)
 }
 
 // The port of the records before a block whose layout is right, or of its first one where there are none.
@@ -206,7 +197,7 @@ fn port_behind(before: u64, s: &[u8]) -> u64
 }
 
 // Writes the packets of a block behind those that were read, or refuses it: how many octets they have.
-pub fn export_block(words: &mut [u64; WORDS], s: &[u8], out: &mut [u8; MOST]) -> Written
+pub fn export_block(words: &mut [u64; WORDS], s: &[u8], out: &mut [u8; MOST]) -> Result<usize, Refusal>
     ensures answer { result ≡ export_block_of words.old s.now }
     ensures words { words.new ≡ reader_behind words.old s.now }
     ensures octets { out.new ≡ packets_behind words.old out.old s.now }
@@ -216,15 +207,15 @@ pub fn export_block(words: &mut [u64; WORDS], s: &[u8], out: &mut [u8; MOST]) ->
         last: words[1],
     };
     let v = judging::judge(s, read);
-    let Verdict::Sound(after) = v else {
-        return Written::Refused(Refusal::Block);
+    let Ok(after) = v else {
+        return Err(Refusal::Block);
     };
     let port = port_behind(words[2], s);
     let w = weigh(s, port);
-    let Weight::Octets(n) = w else {
-        return Written::Refused(Refusal::Export);
+    let Some(n) = w else {
+        return Err(Refusal::Export);
     };
     put_records(&mut out[..], 0, s);
     *words = [after.next, after.last, port];
-    Written::Octets(n)
+    Ok(n)
 }

@@ -1,4 +1,5 @@
 -- Frames, one after another: what each gives, behind what those before it gave.
+use Rattle.std.specs.Prelude.{Result, Ok, Err}
 use Prim.Native.Nat.{ℕ, ◌+◌, ◌≤◌}
 use mathlib.Core.Path.{◌≡◌, ◌∙◌, refl, sym, ap}
 use mathlib.Core.List.{List, [], ◌∷◌, ◌++◌}
@@ -9,20 +10,14 @@ use lib.ListN.{length, length-append}
 use borrow.Author.Tests.{leb-true}
 use Rattle.laws.proofs.Bools.{both}
 use Rattle.refusal.specs.declared.Refusal.{Refusal}
-use Rattle.refusal.specs.declared.Outcome.{Outcome}
-use Rattle.refusal.specs.declared.Outcome.TheVariants as outcome
 use Rattle.octets.specs.Be.{be}
 use Rattle.stores.specs.Stores.{over}
 use Rattle.stores.proofs.Buffer.{put_two}
 use Rattle.block.specs.Layout.{Entry}
 use Rattle.recording.specs.Recording.{next_of, record_check, recorded_of, open_after, words_after, out_after}
-use Rattle.recording.specs.declared.Recorded.{Recorded}
-use Rattle.recording.specs.declared.Recorded.TheVariants as recorded
 use Rattle.traces.specs.Taped.{given_by, taped_all}
 use Rattle.traces.proofs.Given.{given_closed, given_none}
 use Rattle.pcap.specs.File.{Frame}
-use Rattle.importing.specs.declared.Weight.{Weight}
-use Rattle.importing.specs.declared.Weight.TheVariants as weight
 use Rattle.importing.specs.Importing.{frame_head, is_ptp, entry_by, frame_check, frame_recorded, open_behind, words_behind, out_behind, came_out, last_out, taken_of, or_else, records_check, words_after_all, weight_by}
 use Rattle.importing.proofs.Tapes.{remains, remains_more, over_length}
 
@@ -33,13 +28,13 @@ has_head s e = leb-true 14 (length s) (both (leb frame_head (length s)) (eqb (be
 
 -- ---- WHAT COMES OUT
 -- of a record: what the tape gives
-came_by : (opened ws out : List ℕ) (e : Entry) (r : Recorded) → recorded_of ws e ≡ r
+came_by : (opened ws out : List ℕ) (e : Entry) (r : Result Bool Refusal) → recorded_of ws e ≡ r
     → came_out r (out_after opened ws e out) ≡ given_by (record_check ws e) opened ws e
-came_by opened ws out e (recorded.Refused x) h =
+came_by opened ws out e (Err x) h =
     sym (given_none opened out ws e (λ g. let z : ◌≡◌ {A = ℕ} 0 1 = cc in omega arith)).0
-came_by opened ws out e recorded.Kept h =
+came_by opened ws out e (Ok false) h =
     sym (given_none opened out ws e (λ g. let z : ◌≡◌ {A = ℕ} 0 1 = cc in omega arith)).0
-came_by opened ws out e recorded.Closed h = sym (given_closed opened out ws e h)
+came_by opened ws out e (Ok true) h = sym (given_closed opened out ws e h)
 
 -- of a frame, and then of those behind it
 module _ (opened ws out : List ℕ) (port : ℕ) (x : Frame) (xs : List Frame) where
@@ -59,7 +54,7 @@ module _ (opened ws out : List ℕ) (port : ℕ) (x : Frame) (xs : List Frame) w
   frame_more = frame_by (is_ptp x.octets) refl
 
   -- as the code has it
-  pub frame_stored : {told : Recorded} {opened' ws' out' : List ℕ} → told ≡ frame_recorded ws port x
+  pub frame_stored : {told : Result Bool Refusal} {opened' ws' out' : List ℕ} → told ≡ frame_recorded ws port x
       → opened' ≡ open_behind opened ws port x → ws' ≡ words_behind ws port x → out' ≡ out_behind opened ws port x out
       → remains opened ws (taken_of port (x ∷ xs)) ≡ came_out told out' ++ remains opened' ws' (taken_of port xs)
   frame_stored et eo ew eb = frame_more ∙ (λ i. came_out (sym et i) (sym eb i) ++ remains (sym eo i) (sym ew i) (taken_of port xs))
@@ -79,10 +74,10 @@ remains_last opened ws port = refl
 
 -- ---- HOW MANY BLOCKS
 -- what frames come to, from some words on
-abbrev pub weight_from : List ℕ → ℕ → List Frame → Weight
+abbrev pub weight_from : List ℕ → ℕ → List Frame → Result ℕ Refusal
 weight_from ws port xs = weight_by (records_check ws (taken_of port xs)) (next_of (words_after_all ws (taken_of port xs)))
 
-pub weight_end : (ws : List ℕ) (port : ℕ) → weight_from ws port [] ≡ weight.Blocks (next_of ws)
+pub weight_end : (ws : List ℕ) (port : ℕ) → weight_from ws port [] ≡ Ok (next_of ws)
 unfolding taken_of records_check words_after_all
 weight_end ws port = refl
 
@@ -95,13 +90,13 @@ module _ (ws : List ℕ) (port : ℕ) (x : Frame) (xs : List Frame) where
   weight_by_lem false e = rw e
 
   -- the first that is refused
-  pub weight_stop : (y : Refusal) → frame_check ws port x ≡ outcome.Refused y → weight_from ws port (x ∷ xs) ≡ weight.Refused y
+  pub weight_stop : (y : Refusal) → frame_check ws port x ≡ Err y → weight_from ws port (x ∷ xs) ≡ Err y
   weight_stop y h =
       weight_by_lem (is_ptp x.octets) refl
-      ∙ ap (λ (o : Outcome). weight_by (or_else o (records_check (words_behind ws port x) (taken_of port xs))) (next_of (words_after_all (words_behind ws port x) (taken_of port xs)))) h
+      ∙ ap (λ (o : Result (Unit {0}) Refusal). weight_by (or_else o (records_check (words_behind ws port x) (taken_of port xs))) (next_of (words_after_all (words_behind ws port x) (taken_of port xs)))) h
 
   -- one that is not
-  pub weight_more : frame_check ws port x ≡ outcome.Done → weight_from ws port (x ∷ xs) ≡ weight_from (words_behind ws port x) port xs
+  pub weight_more : frame_check ws port x ≡ Ok tt → weight_from ws port (x ∷ xs) ≡ weight_from (words_behind ws port x) port xs
   weight_more h =
       weight_by_lem (is_ptp x.octets) refl
-      ∙ ap (λ (o : Outcome). weight_by (or_else o (records_check (words_behind ws port x) (taken_of port xs))) (next_of (words_after_all (words_behind ws port x) (taken_of port xs)))) h
+      ∙ ap (λ (o : Result (Unit {0}) Refusal). weight_by (or_else o (records_check (words_behind ws port x) (taken_of port xs))) (next_of (words_after_all (words_behind ws port x) (taken_of port xs)))) h

@@ -1,4 +1,5 @@
 -- WHAT IS READ FROM A CAPTURE, REPLAY ACCEPTS, and the records of the trace are exactly those of the frames that are taken.
+use Rattle.std.specs.Prelude.{Result, Ok, Err}
 use Prim.Native.Nat.{ℕ, ◌+◌, ◌≤◌}
 use mathlib.Core.Path.{◌≡◌, ◌∙◌, refl, ap}
 use mathlib.Core.List.{List}
@@ -10,16 +11,12 @@ use borrow.Author.Tests.{not-false, ltb-false}
 use Rattle.refusal.specs.Limits.{is_port}
 use Rattle.refusal.specs.declared.Refusal.{Refusal}
 use Rattle.refusal.specs.declared.Refusal.TheVariants.{Pcap, Port, Room}
-use Rattle.refusal.specs.declared.Outcome.{Outcome}
-use Rattle.refusal.specs.declared.Outcome.TheVariants as outcome
 use Rattle.refusal.proofs.Choice.{passed}
 use Rattle.refusal.proofs.Limits.{port_bounds}
 use Rattle.octets.proofs.Laws.{Octets}
 use Rattle.stores.specs.Stores.{over}
 use Rattle.block.specs.Layout.{block_octets, Entry}
 use Rattle.block.specs.Making.{EntryFits, All}
-use Rattle.writer.specs.declared.writing.Written.{Written}
-use Rattle.writer.specs.declared.writing.Written.TheVariants as written
 use Rattle.playback.specs.Playback.{blocks_in, is_trace, entries_of_all}
 use Rattle.traces.specs.Taped.{fresh_tape}
 use Rattle.traces.proofs.Whole.{recorded_accepted, recorded_entries}
@@ -33,18 +30,18 @@ use Rattle.importing.proofs.Fits.{all_fit}
 pub record Read (room port : ℕ) (file : List ℕ) (n : ℕ) : Type 0 where
   pub capture : is_capture file ≡ true
   pub on_port_lem : is_port port ≡ true
-  pub done : records_check fresh_words (records_in port file) ≡ outcome.Done
+  pub done : records_check fresh_words (records_in port file) ≡ Ok tt
   pub enough : length (trace_by (records_in port file)) ≤ room
   pub octets : length (trace_by (records_in port file)) ≡ n
 
-never : (x : Refusal) (n : ℕ) → written.Refused x ≡ written.Octets n → ⊥
+never : (x : Refusal) (n : ℕ) → ◌≡◌ {A = Result ℕ Refusal} (Err x) (Ok n) → ⊥
 never x n e = let z : ◌≡◌ {A = ℕ} 0 1 = cc in omega arith
 
-behind_done : (o : Outcome) (rest : Written) (n : ℕ) → behind o rest ≡ written.Octets n → (o ≡ outcome.Done) × (rest ≡ written.Octets n)
-behind_done (outcome.Refused x) rest n e = absurd (never x n e)
-behind_done outcome.Done rest n e = (refl, e)
+behind_done : (o : Result (Unit {0}) Refusal) (rest : Result ℕ Refusal) (n : ℕ) → behind o rest ≡ Ok n → (o ≡ Ok tt) × (rest ≡ Ok n)
+behind_done (Err x) rest n e = absurd (never x n e)
+behind_done (Ok tt) rest n e = (refl, e)
 
-pub is_read : (room port : ℕ) (file : List ℕ) (n : ℕ) → import_of room port file ≡ written.Octets n → Read room port file n
+pub is_read : (room port : ℕ) (file : List ℕ) (n : ℕ) → import_of room port file ≡ Ok n → Read room port file n
 unfolding import_of
 is_read room port file n h =
     let a = passed _ _ _ _ (never Pcap n) h in
@@ -54,13 +51,13 @@ is_read room port file n h =
     record { capture = not-false _ a.0; on_port_lem = not-false _ b.0; done = d.0; enough = ltb-false _ _ e.0; octets = cc }
 
 -- ---- THE TRACE
-module _ (out : List ℕ) (port : ℕ) (file : List ℕ) (n : ℕ) (is : import_of (length out) port file ≡ written.Octets n) where
+module _ (out : List ℕ) (port : ℕ) (file : List ℕ) (n : ℕ) (is : import_of (length out) port file ≡ Ok n) where
   -- the first n octets are the trace
   pub trace_first : take n (out_after_import out port file) ≡ trace_by (records_in port file)
   trace_first =
       let r = is_read (length out) port file n is in
       let t = trace_by (records_in port file) in
-      ap (λ (w : Written). take n (lent_by w out (over out 0 t))) is ∙ take_at t (drop (0 + length t) out) n r.octets
+      ap (λ (w : Result ℕ Refusal). take n (lent_by w out (over out 0 t))) is ∙ take_at t (drop (0 + length t) out) n r.octets
 
   -- those past it are as they were
   pub rest_stays : drop n (out_after_import out port file) ≡ drop n out
@@ -68,7 +65,7 @@ module _ (out : List ℕ) (port : ℕ) (file : List ℕ) (n : ℕ) (is : import_
       let r = is_read (length out) port file n is in
       let t = trace_by (records_in port file) in
       let e : 0 + length t ≡ n = omega (arith, r.octets) in
-      ap (λ (w : Written). drop n (lent_by w out (over out 0 t))) is ∙ drop_at t (drop (0 + length t) out) n r.octets ∙ ap (λ (k : ℕ). drop k out) e
+      ap (λ (w : Result ℕ Refusal). drop n (lent_by w out (over out 0 t))) is ∙ drop_at t (drop (0 + length t) out) n r.octets ∙ ap (λ (k : ℕ). drop k out) e
 
   -- a file of octets
   module _ (octets : Octets file) where

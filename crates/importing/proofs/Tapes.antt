@@ -1,5 +1,6 @@
 -- A recording that is handed records one after another: what it still gives behind what it gave, how many octets that is, and that nothing is lost
 -- where none is refused.
+use Rattle.std.specs.Prelude.{Result, Ok, Err}
 use Prim.Native.Nat.{ℕ, suc, ◌+◌, ◌*◌, ◌≤◌}
 use mathlib.Core.Path.{◌≡◌, ◌∙◌, refl, sym, ap}
 use mathlib.Core.List.{List, [], ◌∷◌, ◌++◌, append_assoc, append-nil}
@@ -10,8 +11,6 @@ use lib.ListN.{length, take, drop, replicate, length-append, length-drop, length
 use lib.Seq.{length-take-le}
 use borrow.Author.Tests.{le-leb}
 use Rattle.refusal.specs.Choice.{pick}
-use Rattle.refusal.specs.declared.Outcome.{Outcome}
-use Rattle.refusal.specs.declared.Outcome.TheVariants as outcome
 use Rattle.octets.specs.Be.{octets_of}
 use Rattle.stores.specs.Stores.{over}
 use Rattle.block.specs.Layout.{block_octets, records_at, Entry, count_of}
@@ -21,6 +20,7 @@ use Rattle.recording.proofs.Refusing.{done, bounds}
 use Rattle.traces.specs.Taped.{Tape, given_by, taped_with, taped_all, trace_of, fresh_tape, kept_of}
 use Rattle.traces.proofs.Meaning.{kept}
 use Rattle.importing.specs.Importing.{or_else, records_check, words_after_all, fresh_words, trace_by}
+use Rattle.refusal.specs.declared.Refusal.{Refusal}
 
 -- ---- WHAT IS LEFT
 -- what a recording gives from now on
@@ -52,12 +52,12 @@ words_all (e ∷ es) t = words_all es (taped_with t e)
 
 -- ---- NONE IS REFUSED
 -- what comes first was taken, and those behind it are
-pub first_done : (o rest : Outcome) → or_else o rest ≡ outcome.Done → (o ≡ outcome.Done) × (rest ≡ outcome.Done)
-first_done (outcome.Refused x) rest h = absurd (let z : ◌≡◌ {A = ℕ} 0 1 = cc in omega arith)
-first_done outcome.Done rest h = (refl, h)
+pub first_done : (o rest : Result (Unit {0}) Refusal) → or_else o rest ≡ Ok tt → (o ≡ Ok tt) × (rest ≡ Ok tt)
+first_done (Err x) rest h = absurd (let z : ◌≡◌ {A = ℕ} 0 1 = cc in omega arith)
+first_done (Ok tt) rest h = (refl, h)
 
 -- then all are in the trace
-pub all_kept : (es : List Entry) (t : Tape) → records_check t.words es ≡ outcome.Done → kept_of t es ≡ es
+pub all_kept : (es : List Entry) (t : Tape) → records_check t.words es ≡ Ok tt → kept_of t es ≡ es
 unfolding records_check kept_of
 all_kept [] t h = refl
 all_kept (e ∷ es) t h =
@@ -103,12 +103,12 @@ module _ (t : Tape) (e : Entry) (w : Whole t) where
             (length-append (t.given ++ []) (sealed a) ∙ omega (arith, length-append t.given [], sealed_length a l, w.trace)),
       )
 
-  whole_by : (o : Outcome) → record_check t.words e ≡ o → (b : Bool) → fits t.words e ≡ b → Whole (taped_with t e)
-  whole_by (outcome.Refused x) r b f = record { opened = rw r w.opened; trace = rw (r, append-nil) w.trace }
-  whole_by outcome.Done r true f =
+  whole_by : (o : Result (Unit {0}) Refusal) → record_check t.words e ≡ o → (b : Bool) → fits t.words e ≡ b → Whole (taped_with t e)
+  whole_by (Err x) r b f = record { opened = rw r w.opened; trace = rw (r, append-nil) w.trace }
+  whole_by (Ok tt) r true f =
       let k = whole_fits f in
       record { opened = rw (r, f) k.0; trace = rw (r, f) k.1 }
-  whole_by outcome.Done r false f =
+  whole_by (Ok tt) r false f =
       let s = (done t.words e r).short in
       let n = opened_of (next_of t.words) e.time in
       let a = added_to n records_at e in

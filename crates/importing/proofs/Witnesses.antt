@@ -1,5 +1,6 @@
 -- Captures written out octet by octet, all of their values different, and what is read from them. A place, a size, a limit or an order that is changed breaks a
 -- table, also where definition and code are changed alike.
+use Rattle.std.specs.Prelude.{Ok}
 use Prim.Native.Nat.{ℕ, ◌+◌}
 use mathlib.Core.Path.{◌≡◌, refl}
 use mathlib.Core.List.{List, [], ◌∷◌, ◌++◌, map}
@@ -12,7 +13,6 @@ use Rattle.block.specs.Making.{added_to, sealed}
 use Rattle.recording.specs.Recording.{entry_of, check_by}
 use Rattle.traces.specs.Taped.{taped_all}
 use Rattle.writer.specs.Writing.{written_code}
-use Rattle.writer.specs.declared.writing.Written.TheVariants.{Octets}
 use Rattle.pcap.specs.Form.{low, form_of}
 use Rattle.pcap.specs.File.{is_head, is_packet_head, is_packet, rests_from, are_packets, is_capture}
 use Rattle.importing.specs.Importing.{is_ptp, taken_of, records_check, records_in, import_of}
@@ -179,11 +179,11 @@ pub record Numbers : Type 0 where
   pub long : written_code (import_of 0 18 (headed 4 0 (heard 9 3 (longer (heard 8 3 []))))) ≡ 19
   pub backward : written_code (import_of 0 18 (headed 4 0 (heard 9 3 (heard 8 3 (longer []))))) ≡ 11
   pub room : written_code (import_of 511 18 (headed 4 0 (heard 9 3 (heard 9 3 [])))) ≡ 16
-  pub read : import_of 512 18 (headed 4 0 (heard 9 3 (heard 9 3 []))) ≡ Octets 512
+  pub read : import_of 512 18 (headed 4 0 (heard 9 3 (heard 9 3 []))) ≡ Ok 512
   -- the longest message fills a block
-  pub two_blocks : import_of 1024 18 (headed 4 0 (longest (heard 5 0 []))) ≡ Octets 1024
+  pub two_blocks : import_of 1024 18 (headed 4 0 (longest (heard 5 0 []))) ≡ Ok 1024
   -- nothing is taken: no octet
-  pub none : import_of 0 18 (headed 4 0 (packet last_micro 16 16 (other []))) ≡ Octets 0
+  pub none : import_of 0 18 (headed 4 0 (packet last_micro 16 16 (other []))) ≡ Ok 0
 
 pub numbers : Numbers
 unfolding be low form_of is_head rests_from is_packet_head is_packet are_packets is_ptp taken_of check_by refuse records_check import_of taped_all added_to sealed

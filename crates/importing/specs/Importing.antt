@@ -1,25 +1,18 @@
 -- A capture read into a trace (02, (vi): "Frames with EtherType 0x88F7 are taken without their 14-octet head, others, and those under 14 octets, passed over;
 -- the caller names the port for the file."; "21 PCAP ..; then 8, then what recording gives the first frame it refuses; .. last .. 16 for too little room").
-use Rattle.std.specs.Prelude.{ℕ, List, [], ◌∷◌, Bool, not, ◌&&◌, eqb, leb, ltb, length, drop, replicate}
+use Rattle.std.specs.Prelude.{ℕ, List, [], ◌∷◌, Bool, not, ◌&&◌, eqb, leb, ltb, length, drop, replicate, Result, Ok, Err}
 use Rattle.refusal.specs.Choice.{pick, refuse}
 use Rattle.refusal.specs.Limits.{is_port}
 use Rattle.refusal.specs.declared.Refusal.TheVariants.{Pcap, Port, Room}
-use Rattle.refusal.specs.declared.Outcome.{Outcome}
-use Rattle.refusal.specs.declared.Outcome.TheVariants as outcome
 use Rattle.octets.specs.Be.{be}
 use Rattle.stores.specs.Stores.{over}
-use Rattle.writer.specs.declared.writing.Written.{Written}
-use Rattle.writer.specs.declared.writing.Written.TheVariants.{Octets, Refused}
 pub use Rattle.writer.specs.Writing.{lent_by}
 use Rattle.block.specs.Layout.{block_octets, Entry}
 use Rattle.block.specs.Making.{sealed}
 use Rattle.recording.specs.Recording.{entry_of, next_of, is_open, record_check, recorded_of, open_after, words_after, out_after}
-use Rattle.recording.specs.declared.Recorded.{Recorded}
-use Rattle.recording.specs.declared.Recorded.TheVariants as recorded
 use Rattle.traces.specs.Taped.{taped_all, trace_of, fresh_tape}
 use Rattle.pcap.specs.File.{Frame, frames_of, is_capture}
-use Rattle.importing.specs.declared.Weight.{Weight}
-use Rattle.importing.specs.declared.Weight.TheVariants as weight
+use Rattle.refusal.specs.declared.Refusal.{Refusal}
 
 -- ---- A FRAME
 -- "14-octet head": two addresses, and the EtherType behind them
@@ -35,11 +28,11 @@ abbrev pub entry_by : ℕ → Frame → Entry
 entry_by port x = entry_of x.time port (drop frame_head x.octets)
 
 -- what recording a frame answers, and all that is lent to it afterwards; nothing is changed by one that is passed over
-abbrev pub frame_check : List ℕ → ℕ → Frame → Outcome
-frame_check ws port x = pick (is_ptp x.octets) (record_check ws (entry_by port x)) outcome.Done
+abbrev pub frame_check : List ℕ → ℕ → Frame → Result (Unit {0}) Refusal
+frame_check ws port x = pick (is_ptp x.octets) (record_check ws (entry_by port x)) (Ok tt)
 
-abbrev pub frame_recorded : List ℕ → ℕ → Frame → Recorded
-frame_recorded ws port x = pick (is_ptp x.octets) (recorded_of ws (entry_by port x)) recorded.Kept
+abbrev pub frame_recorded : List ℕ → ℕ → Frame → Result Bool Refusal
+frame_recorded ws port x = pick (is_ptp x.octets) (recorded_of ws (entry_by port x)) (Ok false)
 
 abbrev pub open_behind : List ℕ → List ℕ → ℕ → Frame → List ℕ
 open_behind opened ws port x = pick (is_ptp x.octets) (open_after opened ws (entry_by port x)) opened
@@ -51,10 +44,10 @@ abbrev pub out_behind : List ℕ → List ℕ → ℕ → Frame → List ℕ →
 out_behind opened ws port x out = pick (is_ptp x.octets) (out_after opened ws (entry_by port x) out) out
 
 -- the block that comes out, which `block` has then; and the open block at last
-abbrev pub came_out : Recorded → List ℕ → List ℕ
-came_out (recorded.Refused x) block = []
-came_out recorded.Kept block = []
-came_out recorded.Closed block = block
+abbrev pub came_out : Result Bool Refusal → List ℕ → List ℕ
+came_out (Err x) block = []
+came_out (Ok false) block = []
+came_out (Ok true) block = block
 
 abbrev pub last_out : List ℕ → List ℕ → List ℕ
 last_out opened ws = pick (is_open ws) (sealed opened) []
@@ -66,12 +59,12 @@ taken_of port [] = []
 taken_of port (x ∷ xs) = pick (is_ptp x.octets) (entry_by port x ∷ taken_of port xs) (taken_of port xs)
 
 -- "what recording gives the first frame it refuses"
-abbrev pub or_else : Outcome → Outcome → Outcome
-or_else (outcome.Refused x) rest = outcome.Refused x
-or_else outcome.Done rest = rest
+abbrev pub or_else : Result (Unit {0}) Refusal → Result (Unit {0}) Refusal → Result (Unit {0}) Refusal
+or_else (Err x) rest = Err x
+or_else (Ok tt) rest = rest
 
-unfoldable pub records_check : List ℕ → List Entry → Outcome
-records_check ws [] = outcome.Done
+unfoldable pub records_check : List ℕ → List Entry → Result (Unit {0}) Refusal
+records_check ws [] = Ok tt
 records_check ws (e ∷ es) = or_else (record_check ws e) (records_check (words_after ws e) es)
 
 unfoldable pub words_after_all : List ℕ → List Entry → List ℕ
@@ -87,28 +80,28 @@ abbrev pub trace_by : List Entry → List ℕ
 trace_by es = trace_of (taped_all (fresh_tape (replicate block_octets 0) 0) es)
 
 -- how many blocks they come to: the number that the next would have
-abbrev pub weight_by : Outcome → ℕ → Weight
-weight_by (outcome.Refused x) n = weight.Refused x
-weight_by outcome.Done n = weight.Blocks n
+abbrev pub weight_by : Result (Unit {0}) Refusal → ℕ → Result ℕ Refusal
+weight_by (Err x) n = Err x
+weight_by (Ok tt) n = Ok n
 
-abbrev pub weight_of : ℕ → List Frame → Weight
+abbrev pub weight_of : ℕ → List Frame → Result ℕ Refusal
 weight_of port xs = weight_by (records_check fresh_words (taken_of port xs)) (next_of (words_after_all fresh_words (taken_of port xs)))
 
 -- ---- A FILE
 abbrev pub records_in : ℕ → List ℕ → List Entry
 records_in port file = taken_of port (frames_of file)
 
-abbrev pub behind : Outcome → Written → Written
-behind (outcome.Refused x) rest = Refused x
-behind outcome.Done rest = rest
+abbrev pub behind : Result (Unit {0}) Refusal → Result ℕ Refusal → Result ℕ Refusal
+behind (Err x) rest = Err x
+behind (Ok tt) rest = rest
 
-unfoldable pub import_of : ℕ → ℕ → List ℕ → Written
+unfoldable pub import_of : ℕ → ℕ → List ℕ → Result ℕ Refusal
 import_of room port file =
-    refuse (not (is_capture file)) (Refused Pcap)
-    (refuse (not (is_port port)) (Refused Port)
+    refuse (not (is_capture file)) (Err Pcap)
+    (refuse (not (is_port port)) (Err Port)
     (behind (records_check fresh_words (records_in port file))
-    (refuse (ltb room (length (trace_by (records_in port file)))) (Refused Room)
-    (Octets (length (trace_by (records_in port file)))))))
+    (refuse (ltb room (length (trace_by (records_in port file)))) (Err Room)
+    (Ok (length (trace_by (records_in port file)))))))
 
 -- what was lent, afterwards: octets past the trace stay
 abbrev pub out_after_import : List ℕ → ℕ → List ℕ → List ℕ

@@ -10,16 +10,7 @@ ghost use Rattle.pcap.specs.File.{is_capture_in, frames_in};
 ghost use Rattle.importing.specs.Importing.{is_ptp, frame_check, frame_recorded, open_behind, words_behind, out_behind, taken_of, trace_by, weight_of, came_out, last_out, import_of, out_after_import};
 
 use pcap::{FRAME, Form, PTP};
-use recording::Recorded;
-use refusal::{Outcome, Refusal};
-use writer::writing::Written;
-
-// How many blocks a file's frames come to, or what recording refuses the first of them with.
-#[derive(Clone, Copy)]
-enum Weight {
-    Refused(Refusal),
-    Blocks(u64),
-}
+use refusal::Refusal;
 
 // Whether a frame holds a PTP message.
 fn is_ptp(frame: &[u8]) -> bool
@@ -32,12 +23,12 @@ fn is_ptp(frame: &[u8]) -> bool
 }
 
 // Whether recording would take a frame, and the recording's words behind it; no octet is recorded.
-fn foresee(words: &mut [u64; recording::WORDS], port: u8, t: u64, frame: &[u8]) -> Outcome
+fn foresee(words: &mut [u64; recording::WORDS], port: u8, t: u64, frame: &[u8]) -> Result<(), Refusal>
     ensures answer { result ≡ frame_check words.old port (record { time = t; octets = frame.now }) }
     ensures words { words.new ≡ words_behind words.old port (record { time = t; octets = frame.now }) }
 {
     if !is_ptp(frame) {
-        return Outcome::Done;
+        return Ok(());
     }
     recording::foresee(words, port, t, &frame[FRAME..])
 }
@@ -50,20 +41,20 @@ pub fn keep(
     t: u64,
     frame: &[u8],
     out: &mut [u8; block::OCTETS],
-) -> Recorded
+) -> Result<bool, Refusal>
     ensures answer { result ≡ frame_recorded words.old port (record { time = t; octets = frame.now }) }
     ensures block { opened.new ≡ open_behind opened.old words.old port (record { time = t; octets = frame.now }) }
     ensures words { words.new ≡ words_behind words.old port (record { time = t; octets = frame.now }) }
     ensures octets { out.new ≡ out_behind opened.old words.old port (record { time = t; octets = frame.now }) out.old }
 {
     if !is_ptp(frame) {
-        return Recorded::Kept;
+        return Ok(false);
     }
     recording::record(opened, words, port, t, &frame[FRAME..], out)
 }
 
 // How many blocks the frames of a capture come to, looked at one after another.
-fn weigh(file: &[u8], form: Form, port: u8) -> Weight
+fn weigh(file: &[u8], form: Form, port: u8) -> Result<u64, Refusal>
     requires { is_capture_in form file.now ≡ true }
     ensures { result ≡ weight_of port (frames_in form file.now) }
 {
@@ -75,24 +66,24 @@ fn weigh(file: &[u8], form: Form, port: u8) -> Weight
         let size = pcap::size(form, rest);
         let told = foresee(&mut words, port, t, &rest[pcap::PACKET..size]);
         match told {
-            Outcome::Refused(x) => return Weight::Refused(x),
-            Outcome::Done => {}
+            Err(x) => return Err(x),
+            Ok(()) => {}
         }
         at += size;
     }
-    Weight::Blocks(words[0])
+    Ok(words[0])
 }
 
 // A block that came out goes to `to`: where the next goes.
-fn store(out: &mut [u8], to: usize, told: Recorded, closed: &[u8; block::OCTETS]) -> usize
+fn store(out: &mut [u8], to: usize, told: Result<bool, Refusal>, closed: &[u8; block::OCTETS]) -> usize
     requires { to + length (came_out told closed.now) ≤ length out.old }
     ensures place { result ≡ to + length (came_out told closed.now) }
     ensures octets { out.new ≡ over out.old to (came_out told closed.now) }
 {
     match told {
-        Recorded::Refused(_) => to,
-        Recorded::Kept => to,
-        Recorded::Closed => {
+        Err(_) => to,
+        Ok(false) => to,
+        Ok(true) => {
             stores::copy_in(out, to, &closed[..]);
             to + block::OCTETS
         }
@@ -106,7 +97,7 @@ fn finish(out: &mut [u8], to: usize, opened: &[u8; block::OCTETS], words: &[u64;
 {
     let mut last: [u8; block::OCTETS] = [0; block::OCTETS];
     if recording::finish(opened, words, &mut last) {
-        store(out, to, Recorded::Closed, &last);
+        store(out, to, Ok(true), &last);
     }
 }
 
@@ -139,25 +130,25 @@ fn fill(out: &mut [u8], file: &[u8], form: Form, port: u8)
 }
 
 // Reads a capture into a trace on a port, or refuses it: how many octets the trace has.
-pub fn import(out: &mut [u8], port: u8, file: &[u8]) -> Written
+pub fn import(out: &mut [u8], port: u8, file: &[u8]) -> Result<usize, Refusal>
     ensures answer { result ≡ import_of (length out.old) port file.now }
     ensures octets { out.new ≡ out_after_import out.old port file.now }
 {
     if !pcap::is_capture(file) {
-        return Written::Refused(Refusal::Pcap);
+        return Err(Refusal::Pcap);
     }
     if !refusal::is_port(port) {
-        return Written::Refused(Refusal::Port);
+        return Err(Refusal::Port);
     }
     let form = pcap::form_of(file);
     match weigh(file, form, port) {
-        Weight::Refused(x) => Written::Refused(x),
-        Weight::Blocks(n) => {
+        Err(x) => Err(x),
+        Ok(n) => {
             if out.len() / block::OCTETS < n as usize {
-                return Written::Refused(Refusal::Room);
+                return Err(Refusal::Room);
             }
             fill(out, file, form, port);
-            Written::Octets(n as usize * block::OCTETS)
+            Ok(n as usize * block::OCTETS)
         }
     }
 }

@@ -1,5 +1,6 @@
 -- Laws of the four tests of a block: one step of each loop (zeros by one octet or eight more, records and their times by one
 -- record more), what a layout that is right says, which answer the times give, and the verdict test by test.
+use Rattle.std.specs.Prelude.{Some, None, Result, Ok, Err}
 use Prim.Native.Nat.{ℕ, zero, suc, ◌+◌, ◌-◌, ◌<◌, ◌≤◌}
 use mathlib.Core.Path.{◌≡◌, refl, ap, ◌∙◌}
 use mathlib.Core.List.{List}
@@ -20,10 +21,9 @@ use Rattle.refusal.specs.Limits.{is_port}
 use Rattle.block.specs.Layout.{block_octets, records_at, Entry, entries_from, entries_of, first_time_of, count_of, time_at, port_at, end_at}
 use Rattle.block.specs.Check.{is_checked}
 use Rattle.judging.specs.Tests.{all_zero, laid_from, is_laid, is_in_order, is_next, last_of, times_of, reader_after, verdict_of}
-use Rattle.judging.specs.declared.Times.TheVariants.{Fall, Until}
 use Rattle.judging.specs.declared.Reader.{Reader}
-use Rattle.judging.specs.declared.Verdict.{Verdict}
-use Rattle.judging.specs.declared.Verdict.TheVariants.{Check, Layout, Number, Time, Sound}
+use Rattle.judging.specs.declared.Flaw.{Flaw}
+use Rattle.judging.specs.declared.Flaw.TheVariants.{Check, Layout, Number, Time}
 
 -- ---- ZEROS
 module _ (s : List ℕ) (i : ℕ) (h : i < length s) where
@@ -86,7 +86,7 @@ module _ (s : List ℕ) (at n i : ℕ) (h : i < n) where
       (leb-true _ _ p.0, q.0, q.1)
 
   -- its time is below the last one; or it is not, and is the last one from there on
-  pub times_fall : (t : ℕ) → time_at s at < t → Fall ≡ times_of t (entries_from (n - i) s at)
+  pub times_fall : (t : ℕ) → time_at s at < t → None ≡ times_of t (entries_from (n - i) s at)
   unfolding entries_from is_in_order
   times_fall t e = rw (one_more, lt-leb _ _ e)
 
@@ -117,41 +117,41 @@ not_laid s h = rw (ne_eqb _ _ h)
 
 -- ---- THE TIMES
 -- what is chosen says which it is: some time falls; or none does, and this is the last
-picked_fall : (b : Bool) (x : ℕ) → pick b (Until x) Fall ≡ Fall → b ≡ false
+picked_fall : (b : Bool) (x : ℕ) → pick b (Some x) None ≡ None → b ≡ false
 picked_fall true x e = cc
 picked_fall false x e = refl
 
-picked_until : (b : Bool) (x t : ℕ) → pick b (Until x) Fall ≡ Until t → (b ≡ true) × (x ≡ t)
+picked_until : (b : Bool) (x t : ℕ) → pick b (Some x) None ≡ Some t → (b ≡ true) × (x ≡ t)
 picked_until true x t e = (refl, cc)
 picked_until false x t e = (cc, cc)
 
 module _ (last : ℕ) (es : List Entry) where
-  pub falls : times_of last es ≡ Fall → is_in_order last es ≡ false
+  pub falls : times_of last es ≡ None → is_in_order last es ≡ false
   falls e = picked_fall (is_in_order last es) (last_of last es) e
 
-  pub rises : (t : ℕ) → times_of last es ≡ Until t → (is_in_order last es ≡ true) × (last_of last es ≡ t)
+  pub rises : (t : ℕ) → times_of last es ≡ Some t → (is_in_order last es ≡ true) × (last_of last es ≡ t)
   rises t e = picked_until (is_in_order last es) (last_of last es) t e
 
 -- ---- ALL FOUR
 -- what the tests from one on give
 module _ (r : Reader) (s : List ℕ) where
-  abbrev pub from_time : Verdict
-  from_time = refuse (not (is_in_order r.last (entries_of s))) Time (Sound (reader_after r s))
+  abbrev pub from_time : Result Reader Flaw
+  from_time = refuse (not (is_in_order r.last (entries_of s))) (Err Time) (Ok (reader_after r s))
 
-  abbrev pub from_number : Verdict
-  from_number = refuse (not (is_next r.next s)) Number from_time
+  abbrev pub from_number : Result Reader Flaw
+  from_number = refuse (not (is_next r.next s)) (Err Number) from_time
 
-  abbrev pub from_layout : Verdict
-  from_layout = refuse (not (is_laid s)) Layout from_number
+  abbrev pub from_layout : Result Reader Flaw
+  from_layout = refuse (not (is_laid s)) (Err Layout) from_number
 
-  abbrev pub from_check : Verdict
-  from_check = refuse (not (is_checked s)) Check from_layout
+  abbrev pub from_check : Result Reader Flaw
+  from_check = refuse (not (is_checked s)) (Err Check) from_layout
 
   -- what is not of 512 octets fails by its layout; what is, by the first of the four
-  pub not_whole : (length s ≡ block_octets → ⊥) → Layout ≡ verdict_of r s
+  pub not_whole : (length s ≡ block_octets → ⊥) → Err Layout ≡ verdict_of r s
   unfolding verdict_of
-  not_whole h = passes Check (rw (ne_eqb _ _ h)) (stops _ (ap not (not_laid s h)))
+  not_whole h = passes (Err Check) (rw (ne_eqb _ _ h)) (stops _ (ap not (not_laid s h)))
 
-  pub is_whole : {v : Verdict} → length s ≡ block_octets → v ≡ from_check → v ≡ verdict_of r s
+  pub is_whole : {v : Result Reader Flaw} → length s ≡ block_octets → v ≡ from_check → v ≡ verdict_of r s
   unfolding verdict_of
   is_whole h e = rw (eq-eqb _ _ h) e

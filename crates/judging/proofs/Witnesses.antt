@@ -1,5 +1,6 @@
 -- Each of the tests behind the check for itself, on as few octets as it needs. Whole blocks, and the four tests together, are in
 -- `traces/proofs/Edges.antt`.
+use Rattle.std.specs.Prelude.{Some, None}
 use Prim.Native.Nat.{ℕ}
 use mathlib.Core.Path.{◌≡◌, refl}
 use mathlib.Core.List.{List, [], ◌∷◌, ◌++◌, map}
@@ -10,7 +11,6 @@ use Rattle.block.specs.Layout.{entries_from, entries_of}
 use Rattle.judging.specs.Tests.{all_zero, laid_from, is_laid, is_next, is_in_order, last_of, reader_after}
 use Rattle.judging.specs.Walking.{record_at, next_record}
 use Rattle.judging.specs.declared.Reader.{Reader}
-use Rattle.judging.specs.declared.walking.Next.TheVariants.{Absent, Found}
 use Rattle.block.proofs.Witnesses.{entry}
 
 abbrev reader : ℕ → ℕ → Reader
@@ -37,8 +37,8 @@ pub record Tests : Type 0 where
   pub times : map (λ (last : ℕ). is_in_order last (entry 50 1 [] ∷ entry 50 2 [] ∷ [])) (50 ∷ 51 ∷ []) ≡ true ∷ false ∷ []
   pub inside : is_in_order 0 (entry 50 1 [] ∷ entry 49 2 [] ∷ []) ≡ false
   -- from octet 0 on a walk finds the record, and behind it none
-  pub found : next_record one 0 ≡ Found (record { time = 9; port = 3; at = 27; length = 1; end = 28 })
-  pub walked : next_record one 28 ≡ Absent
+  pub found : next_record one 0 ≡ Some (record { time = 9; port = 3; at = 27; length = 1; end = 28 })
+  pub walked : next_record one 28 ≡ None
 
 pub tests : Tests
 unfolding is_laid laid_from all_zero is_in_order last_of entries_from record_at be

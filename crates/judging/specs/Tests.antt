@@ -1,15 +1,13 @@
 -- The four tests of a block, in their order (02, (iv): "check, layout (a short block too), number or time order wrong, checked in that order").
 -- Each is a definition of its own.
-use Rattle.std.specs.Prelude.{ℕ, zero, suc, List, [], ◌∷◌, Bool, true, not, ◌&&◌, eqb, leb, length, drop}
+use Rattle.std.specs.Prelude.{ℕ, zero, suc, List, [], ◌∷◌, Bool, true, not, ◌&&◌, eqb, leb, length, drop, Option, Some, None, Result, Ok, Err}
 use Rattle.refusal.specs.Choice.{pick, refuse}
 use Rattle.refusal.specs.Limits.{is_port}
 use Rattle.block.specs.Layout.{block_octets, records_at, Entry, number_of, first_time_of, count_of, time_at, port_at, end_at, entries_of}
 use Rattle.block.specs.Check.{is_checked}
 use Rattle.judging.specs.declared.Reader.{Reader}
-use Rattle.judging.specs.declared.Times.{Times}
-use Rattle.judging.specs.declared.Times.TheVariants.{Fall, Until}
-use Rattle.judging.specs.declared.Verdict.{Verdict}
-use Rattle.judging.specs.declared.Verdict.TheVariants.{Check, Layout, Number, Time, Sound}
+use Rattle.judging.specs.declared.Flaw.{Flaw}
+use Rattle.judging.specs.declared.Flaw.TheVariants.{Check, Layout, Number, Time}
 
 -- "512 octets": what is shorter, or longer, has no 256 words to be summed up, and is refused for its layout
 abbrev pub is_whole : List ℕ → Bool
@@ -51,8 +49,8 @@ unfoldable pub last_of : ℕ → List Entry → ℕ
 last_of last [] = last
 last_of last (e ∷ es) = last_of e.time es
 
-abbrev pub times_of : ℕ → List Entry → Times
-times_of last es = pick (is_in_order last es) (Until (last_of last es)) Fall
+abbrev pub times_of : ℕ → List Entry → Option ℕ
+times_of last es = pick (is_in_order last es) (Some (last_of last es)) None
 
 -- ---- ALL FOUR
 -- what a reader keeps of the blocks that it has read
@@ -60,10 +58,10 @@ abbrev pub reader_after : Reader → List ℕ → Reader
 reader_after r s = record { next = suc (number_of s); last = last_of r.last (entries_of s) }
 
 -- "checked in that order"
-unfoldable pub verdict_of : Reader → List ℕ → Verdict
+unfoldable pub verdict_of : Reader → List ℕ → Result Reader Flaw
 verdict_of r s =
-    refuse (fails_check s) Check
-    (refuse (not (is_laid s)) Layout
-    (refuse (not (is_next r.next s)) Number
-    (refuse (not (is_in_order r.last (entries_of s))) Time
-    (Sound (reader_after r s)))))
+    refuse (fails_check s) (Err Check)
+    (refuse (not (is_laid s)) (Err Layout)
+    (refuse (not (is_next r.next s)) (Err Number)
+    (refuse (not (is_in_order r.last (entries_of s))) (Err Time)
+    (Ok (reader_after r s)))))

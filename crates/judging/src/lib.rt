@@ -18,21 +18,13 @@ pub struct Reader {
     pub last: u64,
 }
 
-// Whether a block's times fall somewhere, or its last one.
-#[derive(Clone, Copy)]
-pub enum Times {
-    Fall,
-    Until(u64),
-}
-
 // The test that a block fails first; or it is sound, and what its reader keeps then.
 #[derive(Clone, Copy)]
-pub enum Verdict {
+pub enum Flaw {
     Check,
     Layout,
     Number,
     Time,
-    Sound(Reader),
 }
 
 // The number of a block.
@@ -163,7 +155,7 @@ pub fn is_next(s: &[u8], next: u64) -> bool
 }
 
 // The times: of a block whose layout is right, none below the one before it.
-pub fn timed(s: &[u8], last: u64) -> Times
+pub fn timed(s: &[u8], last: u64) -> Option<u64>
     requires { is_laid s.now ≡ true }
     ensures { result ≡ times_of last (entries_of s.now) }
 {
@@ -174,34 +166,34 @@ pub fn timed(s: &[u8], last: u64) -> Times
     while i < n {
         let next = time_at(s, at);
         if next < t {
-            return Times::Fall;
+            return None;
         }
         t = next;
         at = end_at(s, at);
         i += 1;
     }
-    Times::Until(t)
+    Some(t)
 }
 
 // Which of the four a block fails first, behind the blocks that its reader has read.
-pub fn judge(s: &[u8], reader: Reader) -> Verdict
+pub fn judge(s: &[u8], reader: Reader) -> Result<Reader, Flaw>
     ensures { result ≡ verdict_of reader s.now }
 {
     if s.len() != OCTETS {
-        return Verdict::Layout;
+        return Err(Flaw::Layout);
     }
     if !is_checked(s) {
-        return Verdict::Check;
+        return Err(Flaw::Check);
     }
     if !is_laid(s) {
-        return Verdict::Layout;
+        return Err(Flaw::Layout);
     }
     if !is_next(s, reader.next) {
-        return Verdict::Number;
+        return Err(Flaw::Number);
     }
     match timed(s, reader.last) {
-        Times::Fall => Verdict::Time,
-        Times::Until(t) => Verdict::Sound(Reader {
+        None => Err(Flaw::Time),
+        Some(t) => Ok(Reader {
             next: number(s) as u64 + 1,
             last: t,
         }),

@@ -15,30 +15,23 @@ pub struct Place {
     pub end: usize,
 }
 
-// What stands at an octet.
-#[derive(Clone, Copy)]
-pub enum Next {
-    Absent,
-    Found(Place),
-}
-
 // The record that begins at an octet, where one does: whole, and of a port that there is.
-fn next_at(s: &[u8], at: usize) -> Next
+fn next_at(s: &[u8], at: usize) -> Option<Place>
     requires { length s.now ≡ block_octets }
     ensures { result ≡ record_at s.now at }
 {
     if OCTETS - HEAD < at {
-        return Next::Absent;
+        return None;
     }
     let end = crate::end_at(s, at);
     if OCTETS < end {
-        return Next::Absent;
+        return None;
     }
     let port = crate::port_at(s, at);
     if !refusal::is_port(port) {
-        return Next::Absent;
+        return None;
     }
-    Next::Found(Place {
+    Some(Place {
         time: crate::time_at(s, at),
         port,
         at: at + HEAD,
@@ -48,7 +41,7 @@ fn next_at(s: &[u8], at: usize) -> Next
 }
 
 // The record at octet `from`, the first at 0; behind a record stands the next, and behind the last none.
-pub fn record_from(s: &[u8; OCTETS], from: usize) -> Next
+pub fn record_from(s: &[u8; OCTETS], from: usize) -> Option<Place>
     ensures { result ≡ next_record s.now from }
 {
     if from < RECORDS {

@@ -5,8 +5,8 @@ ghost use Rattle.link_words.specs.Steps.{sends_words, step_words, taken_code, ta
 
 pub mod events;
 
+use refusal::Refusal;
 use link::{Sends, Stepped};
-use links::Taken;
 
 // What a step sends: how many messages, then two of six words each, zeros where there is none.
 fn sends_words(s: Sends) -> [u64; 13]
@@ -64,13 +64,13 @@ fn step_words(s: Stepped) -> [u64; 18]
 }
 
 // What an event on a port gives.
-pub fn put_taken(out: &mut [u64; 18], t: Taken) -> u64
+pub fn put_taken(out: &mut [u64; 18], t: Result<Stepped, Refusal>) -> u64
     ensures answer { result ≡ taken_code t }
     ensures words { out.new ≡ taken_words t out.old }
 {
     match t {
-        Taken::Refused(x) => refusal::number(x),
-        Taken::Step(s) => {
+        Err(x) => refusal::number(x),
+        Ok(s) => {
             *out = step_words(s);
             0
         }

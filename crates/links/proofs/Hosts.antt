@@ -1,4 +1,5 @@
 -- Two hosts bring the link up on both sides, as the two links do (link/proofs/Conversation.antt): their words show those links at every moment.
+use Rattle.std.specs.Prelude.{Ok}
 use Prim.Native.Nat.{ℕ, zero, suc}
 use mathlib.Core.Path.{◌≡◌, refl, ap, sym, ◌∙◌}
 use mathlib.Core.Bool.{Bool, true, false, not, ◌&&◌, ◌||◌}
@@ -22,7 +23,6 @@ use Rattle.link.specs.declared.Move.TheVariants.{Ignore, Enter, LinkOn, Resend, 
 use Rattle.link.specs.Machine.{is_idle, CanSlave, CanMaster, waits_of, asked, calibrate_of, calibrated_of, message_of, mode_on_of, Skips, taken, stepped}
 use Rattle.link.specs.Conversation.{World, Act, ToMaster, ToSlave, SlaveDone, MasterDone, messages, some_left, waits_for_hardware, Can, CanSome, BothUp, at_slave, at_master, sent_to_master, sent_to_slave, master_hears, slave_hears, act, Comes, begins, happenings}
 use Rattle.link.proofs.Conversation.{link_comes_up}
-use Rattle.links.specs.declared.Taken.TheVariants as answer
 use Rattle.links.specs.Words.{IsPort, link_at, settings_at, take_answer}
 use Rattle.links.specs.Hosts.{Heard, number, Hosts, report_of, any_left, slave_takes, master_takes, master_gets, slave_gets, hosts_act, HostsCan, HostsCanSome, HostsUp, Carries, HostsCome, hosts_begin}
 use Rattle.links.proofs.WordLaws.{take_kept, take_leaves_settings}
@@ -105,13 +105,13 @@ module _ {C : Type 0} (heard : C → Heard) (p q : ℕ) (p-known : IsPort p ≡ 
     master_up_lem : w.master_up ≡ v.master_up
 
   module _ (w : Hosts C) (v : World) (h : Shows w v) (put : LinkMessage → C) (f : Carries heard p q Good put) where
-    slave_answers : (e : Event) → take_answer w.slave p e ≡ answer.Step (stepped s v.slave e)
+    slave_answers : (e : Event) → take_answer w.slave p e ≡ Ok (stepped s v.slave e)
     unfolding take_answer refuse
-    slave_answers e = rw p-known (λ i. answer.Step (stepped (h.slave_set i) (h.slave_link i) e))
+    slave_answers e = rw p-known (λ i. Ok (stepped (h.slave_set i) (h.slave_link i) e))
 
-    master_answers : (e : Event) → take_answer w.master q e ≡ answer.Step (stepped t v.master e)
+    master_answers : (e : Event) → take_answer w.master q e ≡ Ok (stepped t v.master e)
     unfolding take_answer refuse
-    master_answers e = rw q-known (λ i. answer.Step (stepped (h.master_set i) (h.master_link i) e))
+    master_answers e = rw q-known (λ i. Ok (stepped (h.master_set i) (h.master_link i) e))
 
     slave_took : (e : Event) → Shows (slave_takes heard p q put e w) (at_slave s t e v)
     slave_took e =

@@ -1,5 +1,6 @@
 -- What holds of a port's link after any calls from zeroed words, on any ports: it is the link that the port's own events make of a fresh one, each
 -- under the settings last set. So what is proved of such a link (link/proofs/RunLaws.antt) holds of the words.
+use Rattle.std.specs.Prelude.{Ok, Err}
 use Prim.Native.Nat.{ℕ, ◌+◌, ◌≤◌, ◌<◌}
 use mathlib.Core.Path.{◌≡◌, refl, ap, sym, ◌∙◌}
 use mathlib.Core.Bool.{Bool, true, false, not, ◌&&◌}
@@ -12,7 +13,6 @@ use lib.Seq.{get_or-set_same}
 use borrow.Author.Tests.{eqb-true, eqb-false, leb-true, leb-false, lt-ltb}
 use Rattle.refusal.specs.Choice.{pick, refuse}
 use Rattle.refusal.specs.declared.Refusal.TheVariants.{Port, Field}
-use Rattle.refusal.specs.declared.Outcome.TheVariants as outcome
 use Rattle.link.specs.declared.Settings.{Settings}
 use Rattle.link.specs.States.{state_of}
 use Rattle.link.specs.declared.Event.{Event}
@@ -21,7 +21,6 @@ use Rattle.link.specs.Machine.{is_idle, left, stepped}
 use Rattle.link.specs.Heeded.{is_heeded}
 use Rattle.link.specs.Run.{Happened, after, since_change, timeouts, Reported}
 use Rattle.link.proofs.RunLaws.{retries_are_timeouts, retries_in_idle, three_at_most, fourth_timeout, mode_was_reported}
-use Rattle.links.specs.declared.Taken.TheVariants as taken
 use Rattle.links.specs.Words.{word_of, link_of, settings_of, IsPort, base, link_at, settings_at, setting_answer, setting_words, step_at, take_answer, take_words}
 use Rattle.links.specs.Run.{Call, setting, taking, words_after, unset, last_set, happened, AllTyped}
 use Rattle.links.proofs.WordLaws.{port-range, zero_is_fresh, set_elsewhere, take_kept, set_kept, take_leaves_settings, set_leaves_link, take_leaves_others, set_leaves_others}
@@ -59,7 +58,7 @@ module _ (ws : List ℕ) (p q : ℕ) (own : IsPort q ≡ true) (apart : eqb p q 
   take_apart e j h true k = take_leaves_others p q (port-range p k).0 (port-range q own).0 not_same ws e j h
   take_apart e j h false k = ap (λ (vs : List ℕ). get_or vs (base q + j) 0) (take_refused ws p e Port (take_outside ws p e k))
 
-  set_outside : (s : Settings) → IsPort p ≡ false → setting_answer p s ≡ outcome.Refused Port
+  set_outside : (s : Settings) → IsPort p ≡ false → setting_answer p s ≡ Err Port
   unfolding setting_answer refuse
   set_outside s k = rw k
 
@@ -141,9 +140,9 @@ module _ (q : ℕ) (own : IsPort q ≡ true) where
       link_by p e (words_after older) (last_set q older) (happened q older) (words_length older) (settings_follow older t.1) (link_follows older t.1) (eqb p q) refl
 
   -- what an event answers is the step of that link
-  pub answer_follows : (cs : List Call) (e : Event) → AllTyped cs → take_answer (words_after cs) q e ≡ taken.Step (stepped (last_set q cs) (after (happened q cs)) e)
+  pub answer_follows : (cs : List Call) (e : Event) → AllTyped cs → take_answer (words_after cs) q e ≡ Ok (stepped (last_set q cs) (after (happened q cs)) e)
   unfolding take_answer refuse
-  answer_follows cs e t = rw own (λ i. taken.Step (stepped (settings_follow cs t i) (link_follows cs t i) e))
+  answer_follows cs e t = rw own (λ i. Ok (stepped (settings_follow cs t i) (link_follows cs t i) e))
 
   -- Words that grew from zeros have no bits that no link has.
 

@@ -1,16 +1,16 @@
 -- Two hosts, each with the words of its links, joined on a port of each (01, "The WR link"): the conversation of link/specs/Conversation.antt over words.
 -- What is on its way may be carried in any form C, as messages or as the octets of a Signaling; a host puts what its link sends into that form, and hands
 -- on to its link the number of the link message that it hears, if there is one.
-use Rattle.std.specs.Prelude.{ℕ, zero, suc, ◌≡◌, Bool, true, false, not, ◌&&◌, ◌||◌, List, [], ◌∷◌, ◌++◌, map}
+use Rattle.std.specs.Prelude.{ℕ, zero, suc, ◌≡◌, Bool, true, false, not, ◌&&◌, ◌||◌, List, [], ◌∷◌, ◌++◌, map, Result, Ok, Err}
 use Rattle.tlv.specs.declared.wr.LinkMessage.{LinkMessage}
 use Rattle.tlv.specs.Numbers.{link_number}
 use Rattle.link.specs.declared.Event.{Event}
 use Rattle.link.specs.declared.Event.TheVariants.{Start, Message, Done}
 use Rattle.link.specs.Machine.{is_idle, waits_of}
 use Rattle.link.specs.Conversation.{Act, ToMaster, ToSlave, SlaveDone, MasterDone, messages, waits_for_hardware}
-use Rattle.links.specs.declared.Taken.{Taken}
-use Rattle.links.specs.declared.Taken.TheVariants as taken
 use Rattle.links.specs.Words.{link_at, take_answer, take_words}
+use Rattle.refusal.specs.declared.Refusal.{Refusal}
+use Rattle.link.specs.declared.Stepped.{Stepped}
 
 -- what a host hears: the number of a link message, or none
 pub data Heard : Type 0 where
@@ -27,13 +27,13 @@ pub record Hosts (C : Type 0) : Type 0 where
   pub master_up : Bool
 
 -- what an event's answer has the host send, and whether it tells link on
-abbrev pub sent_of : Taken → List LinkMessage
-sent_of (taken.Step r) = messages r.sends
-sent_of (taken.Refused x) = []
+abbrev pub sent_of : Result Stepped Refusal → List LinkMessage
+sent_of (Ok r) = messages r.sends
+sent_of (Err x) = []
 
-abbrev pub report_of : Taken → Bool
-report_of (taken.Step r) = r.report
-report_of (taken.Refused x) = false
+abbrev pub report_of : Result Stepped Refusal → Bool
+report_of (Ok r) = r.report
+report_of (Err x) = false
 
 abbrev pub any_left : {C : Type 0} → List C → Bool
 any_left [] = false

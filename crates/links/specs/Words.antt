@@ -1,10 +1,8 @@
 -- How eighteen links and their settings lie in the words that the host lends: four words a port, the link's, its settings', deltaTx
 -- and deltaRx. Any words are links; zeroed words are fresh ones, with config 0.
-use Rattle.std.specs.Prelude.{ℕ, ◌+◌, ◌-◌, ◌*◌, ◌/◌, ◌%◌, Bool, not, List, get_or, set, eqb, ltb}
+use Rattle.std.specs.Prelude.{ℕ, ◌+◌, ◌-◌, ◌*◌, ◌/◌, ◌%◌, Bool, not, List, get_or, set, eqb, ltb, Result, Ok, Err}
 use Rattle.refusal.specs.Limits.{is_port}
 use Rattle.refusal.specs.Choice.{pick, refuse}
-use Rattle.refusal.specs.declared.Outcome.{Outcome}
-use Rattle.refusal.specs.declared.Outcome.TheVariants as outcome
 use Rattle.refusal.specs.declared.Refusal.TheVariants.{Port, Field}
 use Rattle.link.specs.declared.Role.{Role}
 use Rattle.link.specs.declared.Role.TheVariants.{Slave, Master}
@@ -12,10 +10,9 @@ use Rattle.link.specs.declared.Link.{Link}
 use Rattle.link.specs.declared.Settings.{Settings}
 use Rattle.link.specs.declared.Event.{Event}
 use Rattle.link.specs.declared.Stepped.{Stepped}
-use Rattle.links.specs.declared.Taken.{Taken}
-use Rattle.links.specs.declared.Taken.TheVariants as taken
 use Rattle.link.specs.States.{state_number, state_of}
 use Rattle.link.specs.Machine.{stepped, ignored}
+use Rattle.refusal.specs.declared.Refusal.{Refusal}
 
 abbrev pub bit : Bool → ℕ
 bit b = pick b 1 0
@@ -65,11 +62,11 @@ abbrev pub settings_at : List ℕ → ℕ → Settings
 settings_at ws port = settings_of (get_or ws (base port + 1) 0) (get_or ws (base port + 2) 0) (get_or ws (base port + 3) 0)
 
 -- "Settings: 8, 18."
-unfoldable pub setting_answer : ℕ → Settings → Outcome
+unfoldable pub setting_answer : ℕ → Settings → Result (Unit {0}) Refusal
 setting_answer port s =
-    refuse (not (IsPort port)) (outcome.Refused Port)
-    (refuse (ltb 3 s.config) (outcome.Refused Field)
-    outcome.Done)
+    refuse (not (IsPort port)) (Err Port)
+    (refuse (ltb 3 s.config) (Err Field)
+    (Ok tt))
 
 -- the words afterwards: the settings' three, unless refused
 unfoldable pub setting_words : List ℕ → ℕ → Settings → List ℕ
@@ -83,13 +80,13 @@ abbrev pub step_at : List ℕ → ℕ → Event → Stepped
 step_at ws port e = stepped (settings_at ws port) (link_at ws port) e
 
 -- "port outside 1 to 18", else the step
-unfoldable pub take_answer : List ℕ → ℕ → Event → Taken
-take_answer ws port e = refuse (not (IsPort port)) (taken.Refused Port) (taken.Step (step_at ws port e))
+unfoldable pub take_answer : List ℕ → ℕ → Event → Result Stepped Refusal
+take_answer ws port e = refuse (not (IsPort port)) (Err Port) (Ok (step_at ws port e))
 
 -- the words afterwards: the link's own, unless refused
 unfoldable pub take_words : List ℕ → ℕ → Event → List ℕ
 take_words ws port e = refuse (not (IsPort port)) ws (set ws (base port) (word_of (step_at ws port e).link))
 
 -- a link as it stands, "port outside 1 to 18" aside: what an event that is ignored answers, which "changes nothing"
-unfoldable pub look_answer : List ℕ → ℕ → Taken
-look_answer ws port = refuse (not (IsPort port)) (taken.Refused Port) (taken.Step (ignored (link_at ws port)))
+unfoldable pub look_answer : List ℕ → ℕ → Result Stepped Refusal
+look_answer ws port = refuse (not (IsPort port)) (Err Port) (Ok (ignored (link_at ws port)))

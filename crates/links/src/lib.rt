@@ -12,7 +12,7 @@ ghost use Rattle.refusal.specs.Limits.{port_count};
 pub mod brief;
 
 use link::{Event, Link, Role, Sends, Settings, State, Stepped};
-use refusal::{Outcome, Refusal};
+use refusal::Refusal;
 
 // The states in three bits of a word; IDLE is 0.
 const IDLE: u64 = 0;
@@ -30,13 +30,6 @@ const CALIBRATION: u64 = 5;
 const CALIBRATED: u64 = 6;
 
 const RESP_CALIB_REQ: u64 = 7;
-
-// What an event on a port answers: its step, or a refusal.
-#[derive(Clone, Copy)]
-pub enum Taken {
-    Step(Stepped),
-    Refused(Refusal),
-}
 
 // A bool as a bit of a word.
 pub fn bit(b: bool) -> u64
@@ -149,15 +142,15 @@ pub fn place(port: u8) -> usize
 }
 
 // Sets a port's link up.
-pub fn set(words: &mut [u64; 72], port: u8, s: Settings) -> Outcome
+pub fn set(words: &mut [u64; 72], port: u8, s: Settings) -> Result<(), Refusal>
     ensures answer { result ≡ setting_answer port s }
     ensures exit { words.new ≡ setting_words words.old port s }
 {
     if !refusal::is_port(port) {
-        return Outcome::Refused(Refusal::Port);
+        return Err(Refusal::Port);
     }
     if 3 < s.config {
-        return Outcome::Refused(Refusal::Field);
+        return Err(Refusal::Field);
     }
     let at = place(port);
     let tx = s.tx;
@@ -165,34 +158,34 @@ pub fn set(words: &mut [u64; 72], port: u8, s: Settings) -> Outcome
     words[at + 1] = settings_word(s);
     words[at + 2] = tx;
     words[at + 3] = rx;
-    Outcome::Done
+    Ok(())
 }
 
 // Takes an event on a port: the step of its link, under its settings.
-pub fn take(words: &mut [u64; 72], port: u8, e: Event) -> Taken
+pub fn take(words: &mut [u64; 72], port: u8, e: Event) -> Result<Stepped, Refusal>
     ensures answer { result ≡ take_answer words.old port e }
     ensures exit { words.new ≡ take_words words.old port e }
 {
     if !refusal::is_port(port) {
-        return Taken::Refused(Refusal::Port);
+        return Err(Refusal::Port);
     }
     let at = place(port);
     let s = settings_of(words[at + 1], words[at + 2], words[at + 3]);
     let r = link::step(s, link_of(words[at]), e);
     let l = r.link;
     words[at] = word_of(l);
-    Taken::Step(r)
+    Ok(r)
 }
 
 // A port's link as it stands: what an event that is ignored answers.
-pub fn look(words: &[u64; 72], port: u8) -> Taken
+pub fn look(words: &[u64; 72], port: u8) -> Result<Stepped, Refusal>
     ensures { result ≡ look_answer words.now port }
 {
     if !refusal::is_port(port) {
-        return Taken::Refused(Refusal::Port);
+        return Err(Refusal::Port);
     }
     let at = place(port);
-    Taken::Step(Stepped {
+    Ok(Stepped {
         link: link_of(words[at]),
         sends: Sends::Nothing,
         report: false,

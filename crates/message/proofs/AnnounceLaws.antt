@@ -1,4 +1,5 @@
 -- Octets that are an Announce as far as version, type and lengths go, and what the checks say of them.
+use Rattle.std.specs.Prelude.{Result, Ok, Err}
 use Prim.Native.Nat.{ℕ, ◌-◌, ◌<◌, ◌≤◌}
 use mathlib.Core.Path.{◌≡◌, refl, ap}
 use mathlib.Core.List.{List}
@@ -9,15 +10,12 @@ use lib.ListN.{length, take, drop}
 use Rattle.octets.specs.Be.{be}
 use Rattle.refusal.specs.Choice.{refuse}
 use Rattle.refusal.proofs.Choice.{passed}
-use Rattle.refusal.specs.declared.Outcome.{Outcome}
-use Rattle.refusal.specs.declared.Outcome.TheVariants.{Done, Refused}
 use Rattle.tlv.specs.Faults.{fault_of}
-use Rattle.tlv.specs.declared.walk.Fault.TheVariants.{Sound}
 use Rattle.message.specs.Fields.{type_of, version_of, length_of, fixed_size, tail_of}
 use Rattle.message.specs.Reading.{bad_stamp, fault_check, check_of}
 use Rattle.message.specs.Announced.{announce_length, refusal_of, announced_of}
-use Rattle.message.specs.declared.announce.Announced.TheVariants as announced
 use Rattle.message.proofs.Laws.{accepted}
+use Rattle.refusal.specs.declared.Refusal.{Refusal}
 
 module _ (s : List ℕ) where
   pub record Sized : Type 0 where
@@ -57,7 +55,7 @@ module _ (s : List ℕ) where
       rw (le-ltb _ _ z.room, eq-eqb _ _ z.version, eq-eqb _ _ z.type, le-ltb _ _ z.least, le-ltb _ _ z.lent)
 
   -- where it is not told, no Announce is accepted
-  pub unsized : (magic : ℕ) → announce_length s ≡ 0 → check_of magic s ≡ Done → type_of s ≡ 0xB → ⊥
+  pub unsized : (magic : ℕ) → announce_length s ≡ 0 → check_of magic s ≡ Ok tt → type_of s ≡ 0xB → ⊥
   unfolding fixed_size
   unsized magic e d k =
       let a = accepted magic s d in
@@ -66,7 +64,7 @@ module _ (s : List ℕ) where
       omega arith
 
   -- nor with nanoseconds that are too many
-  pub unstamped : (magic : ℕ) → 1000000000 ≤ be 4 s 40 → check_of magic s ≡ Done → type_of s ≡ 0xB → ⊥
+  pub unstamped : (magic : ℕ) → 1000000000 ≤ be 4 s 40 → check_of magic s ≡ Ok tt → type_of s ≡ 0xB → ⊥
   unstamped magic h d k =
       let a = accepted magic s d in
       let b : bad_stamp 0xB s ≡ false = rw k at a.stamp in
@@ -75,17 +73,17 @@ module _ (s : List ℕ) where
       omega arith
 
   -- such octets are accepted where stamp and tail are
-  pub sized_check : (magic : ℕ) → Sized → be 4 s 40 < 1000000000 → fault_of magic (tail_of s) ≡ Sound → check_of magic s ≡ Done
+  pub sized_check : (magic : ℕ) → Sized → be 4 s 40 < 1000000000 → fault_of magic (tail_of s) ≡ Ok tt → check_of magic s ≡ Ok tt
   unfolding check_of refuse fixed_size
   sized_check magic z h t =
       rw (le-ltb (length s) 34 (omega (arith, z.room)), eq-eqb _ _ z.version, z.type, le-ltb _ _ z.least, le-ltb _ _ z.lent, lt-leb _ _ h)
       (ap (fault_check 64) (rw z.type at t))
 
 -- what cannot be an Announce is refused by the checks, else for its type
-pub by_checks : (magic : ℕ) (s : List ℕ) → (check_of magic s ≡ Done → type_of s ≡ 0xB → ⊥) → announced.Refused (refusal_of magic s) ≡ announced_of magic s
+pub by_checks : (magic : ℕ) (s : List ℕ) → (check_of magic s ≡ Ok tt → type_of s ≡ 0xB → ⊥) → Err (refusal_of magic s) ≡ announced_of magic s
 unfolding refusal_of announced_of refuse
 by_checks magic s h = by (check_of magic s) refl
   where
-    by : (o : Outcome) → check_of magic s ≡ o → announced.Refused (refusal_of magic s) ≡ announced_of magic s
-    by (Refused x) e = rw e
-    by Done e = rw (e, ne_eqb (type_of s) 0xB (h e))
+    by : (o : Result (Unit {0}) Refusal) → check_of magic s ≡ o → Err (refusal_of magic s) ≡ announced_of magic s
+    by (Err x) e = rw e
+    by (Ok tt) e = rw (e, ne_eqb (type_of s) 0xB (h e))

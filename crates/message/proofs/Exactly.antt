@@ -1,5 +1,6 @@
 -- Each number that reading gives is given exactly when the table says: by the checks, by every call that reads, and with
 -- the 3 of those calls that take messages of one type.
+use Rattle.std.specs.Prelude.{Result, Ok, Err}
 use Prim.Native.Nat.{ℕ, ◌+◌, ◌<◌}
 use mathlib.Core.Path.{◌≡◌, refl, sym, ap, subst, ◌∙◌}
 use mathlib.Core.List.{List}
@@ -15,8 +16,6 @@ use Rattle.refusal.specs.Refusal.{answer_of, code_of}
 use Rattle.refusal.proofs.Numbers.{answered}
 use Rattle.refusal.specs.declared.Refusal.{Refusal}
 use Rattle.refusal.specs.declared.Refusal.TheVariants.{Short, Version, «Type», Length, Stamp, Tlv, WrBad}
-use Rattle.refusal.specs.declared.Outcome.{Outcome}
-use Rattle.refusal.specs.declared.Outcome.TheVariants.{Done, Refused}
 use Rattle.tlv.specs.Walk.{BreaksAt, FirstTlv, NoTlv}
 use Rattle.tlv.specs.Form.{misfit_at}
 use Rattle.tlv.specs.Faults.{whole, misfit, fault_of}
@@ -27,55 +26,53 @@ use Rattle.message.specs.Reading.{bad_stamp, fault_check, check_of, by, read_of}
 use Rattle.message.specs.Announced.{announced_of}
 use Rattle.message.specs.When.{HasHeader, IsTwo, IsListed, IsSized, IsLent, IsStamped, IsWhole, When, few, version, unlisted, below, beyond, stamp, tlv, wrbad, sound, TakesWhen, unread, other, taken}
 use Rattle.message.specs.Answers.{read_code, announced_code}
-use Rattle.message.specs.declared.reading.Reading.TheVariants as reading
-use Rattle.message.specs.declared.announce.Announced.TheVariants as announced
 
 -- nothing is refused where the number is 0
-pub none_refused : (o : Outcome) → code_of o ≡ 0 → o ≡ Done
-none_refused Done e = refl
-none_refused (Refused x) e = absurd (omega (arith, answered x, e))
+pub none_refused : (o : Result (Unit {0}) Refusal) → code_of o ≡ 0 → o ≡ Ok tt
+none_refused (Ok tt) e = refl
+none_refused (Err x) e = absurd (omega (arith, answered x, e))
 
 module _ (magic : ℕ) (s : List ℕ) where
   -- the answer, from what the octets are like
-  no_header : length s < 34 → check_of magic s ≡ Refused Short
+  no_header : length s < 34 → check_of magic s ≡ Err Short
   unfolding check_of refuse
   no_header h = rw (lt-ltb (length s) 34 h)
 
-  not_two : HasHeader s → (version_of s ≡ 2 → ⊥) → check_of magic s ≡ Refused Version
+  not_two : HasHeader s → (version_of s ≡ 2 → ⊥) → check_of magic s ≡ Err Version
   unfolding check_of refuse
   not_two h n = rw (le-ltb (length s) 34 h, ne_eqb (version_of s) 2 n)
 
-  not_listed : IsTwo s → fixed_size (type_of s) ≡ 0 → check_of magic s ≡ Refused «Type»
+  not_listed : IsTwo s → fixed_size (type_of s) ≡ 0 → check_of magic s ≡ Err «Type»
   unfolding check_of refuse
   not_listed p e = rw (le-ltb (length s) 34 p.0, eq-eqb (version_of s) 2 p.1, eq-eqb (fixed_size (type_of s)) 0 e)
 
   -- what is left of the checks once the type is listed
   listed : IsListed s → check_of magic s
-      ≡ refuse (ltb (length_of s) (fixed_size (type_of s))) (Refused Length)
-      (refuse (ltb (length s) (length_of s)) (Refused Short)
-      (refuse (bad_stamp (type_of s) s) (Refused Stamp)
+      ≡ refuse (ltb (length_of s) (fixed_size (type_of s))) (Err Length)
+      (refuse (ltb (length s) (length_of s)) (Err Short)
+      (refuse (bad_stamp (type_of s) s) (Err Stamp)
       (fault_check (fixed_size (type_of s)) (fault_of magic (tail_of s)))))
   unfolding check_of refuse
   listed p =
       rw (le-ltb (length s) 34 p.0.0, eq-eqb (version_of s) 2 p.0.1, ne_eqb (fixed_size (type_of s)) 0 p.1)
 
-  not_sized : IsListed s → length_of s < fixed_size (type_of s) → check_of magic s ≡ Refused Length
+  not_sized : IsListed s → length_of s < fixed_size (type_of s) → check_of magic s ≡ Err Length
   unfolding refuse
   not_sized p h = listed p ∙ rw (lt-ltb (length_of s) (fixed_size (type_of s)) h)
 
-  not_lent : IsSized s → length s < length_of s → check_of magic s ≡ Refused Short
+  not_lent : IsSized s → length s < length_of s → check_of magic s ≡ Err Short
   unfolding refuse
   not_lent p h =
       listed p.0 ∙ rw (le-ltb (length_of s) (fixed_size (type_of s)) p.1, lt-ltb (length s) (length_of s) h)
 
   -- what is left once the octets are there
-  lent : IsLent s → check_of magic s ≡ refuse (bad_stamp (type_of s) s) (Refused Stamp) (fault_check (fixed_size (type_of s)) (fault_of magic (tail_of s)))
+  lent : IsLent s → check_of magic s ≡ refuse (bad_stamp (type_of s) s) (Err Stamp) (fault_check (fixed_size (type_of s)) (fault_of magic (tail_of s)))
   unfolding refuse
   lent p =
       listed p.0.0
       ∙ rw (le-ltb (length_of s) (fixed_size (type_of s)) p.0.1, le-ltb (length s) (length_of s) p.1)
 
-  bad_stamped : IsLent s → bad_stamp (type_of s) s ≡ true → check_of magic s ≡ Refused Stamp
+  bad_stamped : IsLent s → bad_stamp (type_of s) s ≡ true → check_of magic s ≡ Err Stamp
   unfolding refuse
   bad_stamped p e = lent p ∙ rw e
 
@@ -84,24 +81,24 @@ module _ (magic : ℕ) (s : List ℕ) where
   stamped p = lent p.0 ∙ rw p.1
 
   -- the tail breaks off
-  not_whole : {p : ℕ} → IsStamped s → BreaksAt (tail_of s) p → check_of magic s ≡ Refused (Tlv (fixed_size (type_of s) + p))
+  not_whole : {p : ℕ} → IsStamped s → BreaksAt (tail_of s) p → check_of magic s ≡ Err (Tlv (fixed_size (type_of s) + p))
   unfolding fault_of
   not_whole p v = stamped p ∙ rw (breaks_whole (tail_of s) v, breaks_is (tail_of s) v)
 
   -- a known message has a wrong data size
-  misfitting : {p : ℕ} → IsWhole s → FirstTlv (misfit_at magic (tail_of s)) (tail_of s) p → check_of magic s ≡ Refused (WrBad (fixed_size (type_of s) + p))
+  misfitting : {p : ℕ} → IsWhole s → FirstTlv (misfit_at magic (tail_of s)) (tail_of s) p → check_of magic s ≡ Err (WrBad (fixed_size (type_of s) + p))
   unfolding fault_of
   misfitting {p} w v =
       stamped w.0
       ∙ rw (reached_whole (tail_of s) w.1, first_is (misfit_at magic (tail_of s)) (tail_of s) v, lt_eqb p (length (tail_of s)) v.at.inside)
 
-  fitting : IsWhole s → misfit magic (tail_of s) 0 ≡ length (tail_of s) → check_of magic s ≡ Done
+  fitting : IsWhole s → misfit magic (tail_of s) 0 ≡ length (tail_of s) → check_of magic s ≡ Ok tt
   unfolding fault_of
   fitting p e =
       stamped p.0 ∙ rw (reached_whole (tail_of s) p.1, eq-eqb (misfit magic (tail_of s) 0) (length (tail_of s)) e)
 
-  give : {x : Outcome} → check_of magic s ≡ x → When magic s (code_of x) → When magic s (code_of (check_of magic s))
-  give e w = subst (λ (o : Outcome). When magic s (code_of o)) (sym e) w
+  give : {x : Result (Unit {0}) Refusal} → check_of magic s ≡ x → When magic s (code_of x) → When magic s (code_of (check_of magic s))
+  give e w = subst (λ (o : Result (Unit {0}) Refusal). When magic s (code_of o)) (sym e) w
 
   -- from check to check
   at_tail : IsWhole s → When magic s (code_of (check_of magic s))
@@ -183,29 +180,29 @@ module _ (magic : ℕ) (s : List ℕ) where
 
 -- ---- the calls that read: an answer by the checks has the checks' number
 module _ {A : Type 0} (code : A → ℕ) (refused : Refusal → A) (number : (x : Refusal) → code (refused x) ≡ answer_of x) where
-  pub by_code : (o : Outcome) (a : A) → code a ≡ 0 → code (by o refused a) ≡ code_of o
-  by_code Done a z = z
-  by_code (Refused x) a z = number x
+  pub by_code : (o : Result (Unit {0}) Refusal) (a : A) → code a ≡ 0 → code (by o refused a) ≡ code_of o
+  by_code (Ok tt) a z = z
+  by_code (Err x) a z = number x
 
   -- those that take messages of one type
   module _ (magic kind : ℕ) (s : List ℕ) (a : A) (z : code a ≡ 0) where
     abbrev answer : A
     answer = by (check_of magic s) refused (refuse (not (eqb (type_of s) kind)) (refused «Type») a)
 
-    refused_as : {n : ℕ} (x : Refusal) → check_of magic s ≡ Refused x → code_of (check_of magic s) ≡ n → code answer ≡ n
+    refused_as : {n : ℕ} (x : Refusal) → check_of magic s ≡ Err x → code_of (check_of magic s) ≡ n → code answer ≡ n
     refused_as x e m = rw e (number x ∙ ap code_of (sym e) ∙ m)
 
-    other_as : check_of magic s ≡ Done → (type_of s ≡ kind → ⊥) → code answer ≡ 3
+    other_as : check_of magic s ≡ Ok tt → (type_of s ≡ kind → ⊥) → code answer ≡ 3
     unfolding refuse
     other_as e n = rw (e, ne_eqb (type_of s) kind n) (number «Type»)
 
-    taken_as : check_of magic s ≡ Done → type_of s ≡ kind → code answer ≡ 0
+    taken_as : check_of magic s ≡ Ok tt → type_of s ≡ kind → code answer ≡ 0
     unfolding refuse
     taken_as e k = rw (e, eq-eqb (type_of s) kind k) z
 
-    refused_by : {n : ℕ} (o : Outcome) → check_of magic s ≡ o → code_of (check_of magic s) ≡ n → 0 < n → code answer ≡ n
-    refused_by (Refused x) e m p = refused_as x e m
-    refused_by Done e m p = absurd (let z = ap code_of e in omega (arith, z, m, p))
+    refused_by : {n : ℕ} (o : Result (Unit {0}) Refusal) → check_of magic s ≡ o → code_of (check_of magic s) ≡ n → 0 < n → code answer ≡ n
+    refused_by (Err x) e m p = refused_as x e m
+    refused_by (Ok tt) e m p = absurd (let z = ap code_of e in omega (arith, z, m, p))
 
     pub when_takes : {n : ℕ} → TakesWhen magic kind s n → code answer ≡ n
     when_takes (unread w p) = refused_by (check_of magic s) refl (when_told magic s w) p
@@ -213,13 +210,13 @@ module _ {A : Type 0} (code : A → ℕ) (refused : Refusal → A) (number : (x 
     when_takes (taken w k) = taken_as (none_refused (check_of magic s) (when_told magic s w)) k
 
     -- which of the three it is
-    line : (o : Outcome) → check_of magic s ≡ o → (b : Bool) → eqb (type_of s) kind ≡ b → (n : ℕ) × TakesWhen magic kind s n
-    line (Refused x) e b t =
-        (answer_of x, unread (subst (λ (o : Outcome). When magic s (code_of o)) e (told magic s)) (answered x))
-    line Done e true t =
-        (0, taken (subst (λ (o : Outcome). When magic s (code_of o)) e (told magic s)) (eqb-true (type_of s) kind t))
-    line Done e false t =
-        (3, other (subst (λ (o : Outcome). When magic s (code_of o)) e (told magic s)) (eqb-false (type_of s) kind t))
+    line : (o : Result (Unit {0}) Refusal) → check_of magic s ≡ o → (b : Bool) → eqb (type_of s) kind ≡ b → (n : ℕ) × TakesWhen magic kind s n
+    line (Err x) e b t =
+        (answer_of x, unread (subst (λ (o : Result (Unit {0}) Refusal). When magic s (code_of o)) e (told magic s)) (answered x))
+    line (Ok tt) e true t =
+        (0, taken (subst (λ (o : Result (Unit {0}) Refusal). When magic s (code_of o)) e (told magic s)) (eqb-true (type_of s) kind t))
+    line (Ok tt) e false t =
+        (3, other (subst (λ (o : Result (Unit {0}) Refusal). When magic s (code_of o)) e (told magic s)) (eqb-false (type_of s) kind t))
 
     pub takes_told : TakesWhen magic kind s (code answer)
     takes_told =
@@ -230,7 +227,7 @@ module _ (magic : ℕ) (s : List ℕ) where
   -- reading
   read_code_lem : read_code (read_of magic s) ≡ code_of (check_of magic s)
   unfolding read_of
-  read_code_lem = by_code read_code reading.Refused (λ x. refl) (check_of magic s) (reading.Whole (message_of s)) refl
+  read_code_lem = by_code read_code Err (λ x. refl) (check_of magic s) (Ok (message_of s)) refl
 
   pub read_told : When magic s (read_code (read_of magic s))
   read_told = subst (When magic s) (sym read_code_lem) (told magic s)
@@ -241,8 +238,8 @@ module _ (magic : ℕ) (s : List ℕ) where
   -- what intake reads: 3 where the message is no Announce
   pub announced_told : TakesWhen magic 0xB s (announced_code (announced_of magic s))
   unfolding announced_of
-  announced_told = takes_told announced_code announced.Refused (λ x. refl) magic 0xB s _ refl
+  announced_told = takes_told announced_code Err (λ x. refl) magic 0xB s _ refl
 
   pub when_announced : {n : ℕ} → TakesWhen magic 0xB s n → announced_code (announced_of magic s) ≡ n
   unfolding announced_of
-  when_announced w = when_takes announced_code announced.Refused (λ x. refl) magic 0xB s _ refl w
+  when_announced w = when_takes announced_code Err (λ x. refl) magic 0xB s _ refl w

@@ -1,5 +1,6 @@
 -- Ignored means ignored: messages that differ only in reserved fields, controlField and padding get the same answers from
 -- every call that reads.
+use Rattle.std.specs.Prelude.{Result, Ok, Err}
 use Prim.Native.Nat.{ℕ, zero, suc, ◌+◌, ◌-◌, ◌*◌, ◌/◌, ◌%◌, ◌≤◌, ◌<◌}
 use mathlib.Core.Path.{◌≡◌, refl, sym, ap, ◌∙◌}
 use mathlib.Core.List.{List, [], ◌∷◌, ◌++◌}
@@ -15,8 +16,6 @@ use mir.Val.{to_z}
 use Rattle.refusal.specs.Choice.{pick, refuse}
 use Rattle.refusal.specs.declared.Refusal.{Refusal}
 use Rattle.refusal.specs.declared.Refusal.TheVariants.{Short, Version, «Type», Length, Stamp}
-use Rattle.refusal.specs.declared.Outcome.{Outcome}
-use Rattle.refusal.specs.declared.Outcome.TheVariants.{Done, Refused}
 use Rattle.octets.specs.Be.{be}
 use Rattle.tlv.specs.Faults.{fault_of}
 use Rattle.tlv.specs.Wr.{suffix_in, wr_flags_of}
@@ -26,8 +25,6 @@ use Rattle.message.specs.Announced.{announced_of}
 use Rattle.message.specs.Ignored.{header_ignored, rest_ignored, is_ignored, Reaches, Alike}
 use Rattle.message.specs.declared.fields.Body.{Body}
 use Rattle.message.specs.declared.fields.Body.TheVariants as body
-use Rattle.message.specs.declared.reading.Reading.TheVariants as reading
-use Rattle.message.specs.declared.announce.Announced.TheVariants as announced
 use Rattle.message.proofs.Laws.{accepted, size_least}
 
 -- ---- checks that were passed
@@ -37,9 +34,9 @@ unfolding refuse
 under true x h = refl
 under false x h = h refl
 
-pub by_under : {A : Type 0} (o : Outcome) (refused : Refusal → A) {y z : A} → (o ≡ Done → y ≡ z) → by o refused y ≡ by o refused z
-by_under Done refused h = h refl
-by_under (Refused x) refused h = refl
+pub by_under : {A : Type 0} (o : Result (Unit {0}) Refusal) (refused : Refusal → A) {y z : A} → (o ≡ Ok tt → y ≡ z) → by o refused y ≡ by o refused z
+by_under (Ok tt) refused h = h refl
+by_under (Err x) refused h = refl
 
 and_true : (a b : Bool) → a && b ≡ true → (a ≡ true) × (b ≡ true)
 and_true true b e = (refl, e)
@@ -363,17 +360,17 @@ module _ (a b : List ℕ) (s : Alike a b) where
     -- THE READING CHECKS GIVE THE SAME
     pub check_same : check_of magic a ≡ check_of magic b
     unfolding check_of
-    check_same = headed_same Refused (λ listed t. λ i. fault_check (fixed_size (type_same i)) (fault_of magic (t i)))
+    check_same = headed_same Err (λ listed t. λ i. fault_check (fixed_size (type_same i)) (fault_of magic (t i)))
 
     -- what an accepted message says
-    pub accepted_tail : check_of magic a ≡ Done → tail_of a ≡ tail_of b
+    pub accepted_tail : check_of magic a ≡ Ok tt → tail_of a ≡ tail_of b
     accepted_tail e =
         let c = accepted magic a e in
         let l = both_lent (le-ltb _ _ c.lent) in
         tail_same c.least c.listed l.0 l.1
 
     -- the ten octets of its timestamp
-    pub accepted_stamp : check_of magic a ≡ Done → take 10 (drop 34 a) ≡ take 10 (drop 34 b)
+    pub accepted_stamp : check_of magic a ≡ Ok tt → take 10 (drop 34 a) ≡ take 10 (drop 34 b)
     accepted_stamp e =
         let c = accepted magic a e in
         let l = both_lent (le-ltb _ _ c.lent) in
@@ -381,30 +378,30 @@ module _ (a b : List ℕ) (s : Alike a b) where
         let g = c.least in
         span_same 10 34 (omega arith) (omega arith) (omega arith) (omega arith) (λ k u v. rw (ne_eqb k 46 (λ q. omega arith)))
 
-    pub accepted_message : check_of magic a ≡ Done → message_of a ≡ message_of b
+    pub accepted_message : check_of magic a ≡ Ok tt → message_of a ≡ message_of b
     accepted_message e = let c = accepted magic a e in message_same c.least c.listed
 
     -- an answer by the checks, of what an accepted message says
-    pub by_same : {A : Type 0} (refused : Refusal → A) {y z : A} → (check_of magic a ≡ Done → y ≡ z)
+    pub by_same : {A : Type 0} (refused : Refusal → A) {y z : A} → (check_of magic a ≡ Ok tt → y ≡ z)
         → by (check_of magic a) refused y ≡ by (check_of magic b) refused z
     by_same refused {y} {z} h = by_under (check_of magic a) refused h ∙ (λ i. by (check_same i) refused z)
 
     -- THE SAME ANSWERS from reading,
     pub read_same : read_of magic a ≡ read_of magic b
     unfolding read_of
-    read_same = by_same reading.Refused (λ e. ap reading.Whole (accepted_message e))
+    read_same = by_same Err (λ e. ap Ok (accepted_message e))
 
     -- and reading an Announce with its suffix
     pub announced_same : announced_of magic a ≡ announced_of magic b
     unfolding announced_of
     announced_same =
-        by_same announced.Refused
+        by_same Err
         (λ e.
         let c = accepted magic a e in
         let t = accepted_tail e in
-        under (not (eqb (type_of a) 0xB)) (announced.Refused «Type»)
+        under (not (eqb (type_of a) 0xB)) (Err «Type»)
         (λ k.
         let l = announce_same (announce_long c.least c.listed (not-false _ k)) in
-        λ i. announced.Whole (record { header = header_same i; announce = l i; flags = wr_flags_of (suffix_in magic (t i)) }))
-        ∙ (λ i. refuse (not (eqb (type_same i) 0xB)) (announced.Refused «Type»)
-        (announced.Whole (record { header = header_of b; announce = announce_of b; flags = wr_flags_of (suffix_in magic (tail_of b)) }))))
+        λ i. Ok (record { header = header_same i; announce = l i; flags = wr_flags_of (suffix_in magic (t i)) }))
+        ∙ (λ i. refuse (not (eqb (type_same i) 0xB)) (Err «Type»)
+        (Ok (record { header = header_of b; announce = announce_of b; flags = wr_flags_of (suffix_in magic (tail_of b)) }))))

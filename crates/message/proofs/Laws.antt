@@ -1,4 +1,5 @@
 -- What an accepted message says of the octets lent, one of the type that a call takes, and the bounds of the fixed sizes.
+use Rattle.std.specs.Prelude.{Result, Ok, Err}
 use Prim.Native.Nat.{ℕ, ◌+◌, ◌-◌, ◌<◌, ◌≤◌}
 use mathlib.Core.Path.{◌≡◌, refl, sym}
 use mathlib.Core.List.{List, []}
@@ -12,12 +13,10 @@ use Rattle.refusal.proofs.Choice.{passed}
 pub use Rattle.refusal.proofs.Choice.{no_refusal}
 use Rattle.refusal.specs.declared.Refusal.{Refusal}
 use Rattle.refusal.specs.declared.Refusal.TheVariants.{«Type»}
-use Rattle.refusal.specs.declared.Outcome.{Outcome}
-use Rattle.refusal.specs.declared.Outcome.TheVariants.{Done, Refused}
 use Rattle.tlv.specs.Walk.{walk_by, walk}
 use Rattle.tlv.specs.Faults.{fault_of, is_fault}
 use Rattle.tlv.specs.declared.walk.Fault.{Fault}
-use Rattle.tlv.specs.declared.walk.Fault.TheVariants.{Sound, Broken, Misfit}
+use Rattle.tlv.specs.declared.walk.Fault.TheVariants.{Broken, Misfit}
 use Rattle.tlv.proofs.FaultLaws.{break_inside, misfit_inside}
 use Rattle.message.specs.Fields.{type_of, version_of, length_of, fixed_size, tail_of}
 use Rattle.message.specs.Reading.{bad_stamp, IsPlaced, fault_check, check_of, by, takes_of}
@@ -57,34 +56,34 @@ unfolding fixed_size
 size_most kind = most_by (eqb kind 0x0) (eqb kind 0x1) (eqb kind 0x8) (eqb kind 0x9) (eqb kind 0xB) (eqb kind 0xC)
 
 -- nothing is wrong with no tail
-pub no_tail : (magic : ℕ) → fault_of magic [] ≡ Sound
+pub no_tail : (magic : ℕ) → fault_of magic [] ≡ Ok tt
 unfolding fault_of walk walk_by
 no_tail magic = refl
 
 -- a tail is refused exactly where it has a fault
-pub no_fault : (size : ℕ) (x : Fault) → fault_check size x ≡ Done → x ≡ Sound
-no_fault size Sound e = refl
-no_fault size (Broken p) e = absurd (no_refusal _ e)
-no_fault size (Misfit p) e = absurd (no_refusal _ e)
+pub no_fault : (size : ℕ) (x : Result (Unit {0}) Fault) → fault_check size x ≡ Ok tt → x ≡ Ok tt
+no_fault size (Ok tt) e = refl
+no_fault size (Err (Broken p)) e = absurd (no_refusal _ e)
+no_fault size (Err (Misfit p)) e = absurd (no_refusal _ e)
 
 -- a fault has its place in the message
-pub fault_placed : (magic size : ℕ) (t : List ℕ) → size + length t < 65536 → (x : Fault) → x ≡ fault_of magic t → IsPlaced size x
-fault_placed magic size t h Sound e = tt
-fault_placed magic size t h (Broken p) e = let l = break_inside magic t (sym e) in omega arith
-fault_placed magic size t h (Misfit p) e = let l = misfit_inside magic t (sym e) in omega arith
+pub fault_placed : (magic size : ℕ) (t : List ℕ) → size + length t < 65536 → (x : Result (Unit {0}) Fault) → x ≡ fault_of magic t → IsPlaced size x
+fault_placed magic size t h (Ok tt) e = tt
+fault_placed magic size t h (Err (Broken p)) e = let l = break_inside magic t (sym e) in omega arith
+fault_placed magic size t h (Err (Misfit p)) e = let l = misfit_inside magic t (sym e) in omega arith
 
 -- what stands between two lengths ends at the second
 pub part_short : (size n : ℕ) (s : List ℕ) → size ≤ n → n < 65536 → size + length (take (n - size) (drop size s)) < 65536
 part_short size n s h m = let l : length (take (n - size) (drop size s)) ≤ n - size = simp length-take (omega arith) in omega arith
 
 -- a tail that is refused has a fault
-pub told_fault : (size : ℕ) (x : Fault) {y : Refusal} → fault_check size x ≡ Refused y → is_fault x ≡ true
-told_fault size Sound e = absurd (no_refusal _ (sym e))
-told_fault size (Broken p) e = refl
-told_fault size (Misfit p) e = refl
+pub told_fault : (size : ℕ) (x : Result (Unit {0}) Fault) {y : Refusal} → fault_check size x ≡ Err y → is_fault x ≡ true
+told_fault size (Ok tt) e = absurd (no_refusal _ (sym e))
+told_fault size (Err (Broken p)) e = refl
+told_fault size (Err (Misfit p)) e = refl
 
 -- and one that is not has none
-pub told_sound : (size : ℕ) (x : Fault) → fault_check size x ≡ Done → is_fault x ≡ false
+pub told_sound : (size : ℕ) (x : Result (Unit {0}) Fault) → fault_check size x ≡ Ok tt → is_fault x ≡ false
 told_sound size x e = rw (no_fault size x e)
 
 -- all the checks are passed
@@ -95,9 +94,9 @@ pub record Accepted (magic : ℕ) (s : List ℕ) : Type 0 where
   pub least : fixed_size (type_of s) ≤ length_of s
   pub lent : length_of s ≤ length s
   pub stamp : bad_stamp (type_of s) s ≡ false
-  pub tail : fault_of magic (tail_of s) ≡ Sound
+  pub tail : fault_of magic (tail_of s) ≡ Ok tt
 
-pub accepted : (magic : ℕ) (s : List ℕ) → check_of magic s ≡ Done → Accepted magic s
+pub accepted : (magic : ℕ) (s : List ℕ) → check_of magic s ≡ Ok tt → Accepted magic s
 unfolding check_of
 accepted magic s e =
     let p1 = passed _ _ _ _ (no_refusal _) e in
@@ -117,31 +116,31 @@ accepted magic s e =
     }
 
 -- so the fixed part and the tail are there
-pub bounded : (magic : ℕ) (s : List ℕ) → check_of magic s ≡ Done → Bounded s
+pub bounded : (magic : ℕ) (s : List ℕ) → check_of magic s ≡ Ok tt → Bounded s
 bounded magic s e = let a = accepted magic s e in record { header = a.header; least = a.least; lent = a.lent }
 
 -- the tail is what messageLength leaves behind the fixed part
 pub tail_length : (s : List ℕ) → Bounded s → length (tail_of s) ≡ length_of s - fixed_size (type_of s)
 tail_length s b = simp (length-take, length-drop) (omega arith)
 
-pub fixed_part : (magic : ℕ) (s : List ℕ) → check_of magic s ≡ Done → (44 ≤ length s) × (fixed_size (type_of s) ≤ length s)
+pub fixed_part : (magic : ℕ) (s : List ℕ) → check_of magic s ≡ Ok tt → (44 ≤ length s) × (fixed_size (type_of s) ≤ length s)
 fixed_part magic s e =
     let a = accepted magic s e in
     let h : 44 ≤ fixed_size (type_of s) = size_least (type_of s) a.listed in
     (omega arith, omega arith)
 
 -- two lists of checks, one after the other, are passed
-pub both_done : (x y : Outcome) → by x Refused y ≡ Done → (x ≡ Done) × (y ≡ Done)
-both_done Done y e = (refl, e)
-both_done (Refused z) y e = absurd (no_refusal z e)
+pub both_done : (x y : Result (Unit {0}) Refusal) → by x Err y ≡ Ok tt → (x ≡ Ok tt) × (y ≡ Ok tt)
+both_done (Ok tt) y e = (refl, e)
+both_done (Err z) y e = absurd (no_refusal z e)
 
 -- a message of the type that is taken
 pub record Taken (magic kind : ℕ) (s : List ℕ) : Type 0 where
-  pub checked : check_of magic s ≡ Done
+  pub checked : check_of magic s ≡ Ok tt
   pub type_is : type_of s ≡ kind
   pub fixed : 44 ≤ length s
 
-pub taken : (magic kind : ℕ) (s : List ℕ) → takes_of magic kind s ≡ Done → Taken magic kind s
+pub taken : (magic kind : ℕ) (s : List ℕ) → takes_of magic kind s ≡ Ok tt → Taken magic kind s
 unfolding takes_of
 taken magic kind s e =
     let p = both_done (check_of magic s) _ e in
@@ -150,12 +149,12 @@ taken magic kind s e =
 
 -- what a call answers that takes one type, by what was told of these checks
 module _ {A : Type 0} (refused : Refusal → A) (a : A) (magic kind : ℕ) (s : List ℕ) where
-  pub taking : {r o : Outcome} → r ≡ takes_of magic kind s → r ≡ o
+  pub taking : {r o : Result (Unit {0}) Refusal} → r ≡ takes_of magic kind s → r ≡ o
       → by o refused a ≡ by (check_of magic s) refused (refuse (not (eqb (type_of s) kind)) (refused «Type») a)
   unfolding takes_of refuse
   taking e d = rw (← d, e) (cases (check_of magic s) (not (eqb (type_of s) kind)))
     where
-      cases : (o : Outcome) (b : Bool) → by (by o Refused (refuse b (Refused «Type») Done)) refused a ≡ by o refused (refuse b (refused «Type») a)
-      cases (Refused x) b = refl
-      cases Done true = refl
-      cases Done false = refl
+      cases : (o : Result (Unit {0}) Refusal) (b : Bool) → by (by o Err (refuse b (Err «Type») (Ok tt))) refused a ≡ by o refused (refuse b (refused «Type») a)
+      cases (Err x) b = refl
+      cases (Ok tt) true = refl
+      cases (Ok tt) false = refl

@@ -1,5 +1,6 @@
 -- Inputs at which the contracts demand different answers: a reader that refuses everything, accepts everything or
 -- answers one constant does not meet them. Each is computed from the definitions.
+use Rattle.std.specs.Prelude.{Result, Ok, Err}
 use Prim.Native.Nat.{ℕ, zero, suc, ◌+◌, ◌-◌, ◌*◌, ◌/◌, ◌%◌}
 use mathlib.Core.Path.{◌≡◌, refl}
 use mathlib.Core.List.{List, [], ◌∷◌, ◌++◌, map}
@@ -17,8 +18,8 @@ use Rattle.message.specs.declared.fields.Timestamp.{Timestamp}
 use Rattle.message.specs.declared.fields.Header.{Header}
 use Rattle.message.specs.declared.fields.Body.{Body}
 use Rattle.message.specs.declared.fields.Body.TheVariants as body
-use Rattle.message.specs.declared.reading.Reading.{Reading}
-use Rattle.message.specs.declared.reading.Reading.TheVariants as reading
+use Rattle.message.specs.declared.fields.Message.{Message}
+use Rattle.refusal.specs.declared.Refusal.{Refusal}
 
 abbrev pub zeros : ℕ → List ℕ → List ℕ
 zeros zero rest = rest
@@ -48,9 +49,9 @@ type_number (body.DelayResp r) = 0x9
 type_number (body.Announce a) = 0xB
 type_number (body.Signaling i) = 0xC
 
-abbrev answer : Reading → ℕ
-answer (reading.Whole m) = type_number m.body
-answer (reading.Refused x) = 100 + number_of x
+abbrev answer : Result Message Refusal → ℕ
+answer (Ok m) = type_number m.body
+answer (Err x) = 100 + number_of x
 
 -- accepted of each type, and each refusal
 pub reads : map (λ (s : List ℕ). answer (read_of 0xABCD s)) (
@@ -110,8 +111,8 @@ full_header =
 abbrev full_stamp : Timestamp
 full_stamp = record { seconds = 0x212223242526; nanoseconds = 0x2728292A }
 
-abbrev full_read : Body → Reading
-full_read b = reading.Whole (record { header = full_header; body = b })
+abbrev full_read : Body → Result Message Refusal
+full_read b = Ok (record { header = full_header; body = b })
 
 -- each field of each type comes from its own octets
 pub fields : map (read_of 0xABCD) (

@@ -1,20 +1,19 @@
 -- An Announce as those take it who choose a parent: header, body, and the wrFlags of its suffix (01, "Octets of a message").
-use Rattle.std.specs.Prelude.{ℕ, List, not, eqb, ltb, length}
+use Rattle.std.specs.Prelude.{ℕ, List, not, eqb, ltb, length, Result, Ok, Err}
 use Rattle.refusal.specs.Choice.{refuse}
 use Rattle.refusal.specs.declared.Refusal.{Refusal}
 use Rattle.refusal.specs.declared.Refusal.TheVariants.{«Type»}
 use Rattle.tlv.specs.Wr.{suffix_in, wr_flags_of}
 use Rattle.message.specs.Fields.{type_of, version_of, length_of, header_of, announce_of, tail_of}
 use Rattle.message.specs.Reading.{check_of, by}
-use Rattle.message.specs.declared.announce.Announced.{Announced}
-use Rattle.message.specs.declared.announce.Announced.TheVariants as announced
+use Rattle.message.specs.declared.announce.Heard.{Heard}
 
 -- "the reading checks, 3 if it isn't an Announce"; wrFlags 0 without a suffix
-unfoldable pub announced_of : ℕ → List ℕ → Announced
+unfoldable pub announced_of : ℕ → List ℕ → Result Heard Refusal
 announced_of magic s =
-    by (check_of magic s) announced.Refused
-    (refuse (not (eqb (type_of s) 0xB)) (announced.Refused «Type»)
-    (announced.Whole (record { header = header_of s; announce = announce_of s; flags = wr_flags_of (suffix_in magic (tail_of s)) })))
+    by (check_of magic s) Err
+    (refuse (not (eqb (type_of s) 0xB)) (Err «Type»)
+    (Ok (record { header = header_of s; announce = announce_of s; flags = wr_flags_of (suffix_in magic (tail_of s)) })))
 
 -- what refuses octets that are no Announce
 unfoldable pub refusal_of : ℕ → List ℕ → Refusal

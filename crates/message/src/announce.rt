@@ -3,21 +3,13 @@ ghost use Rattle.std.specs.Prelude.{◌≡◌};
 ghost use Rattle.message.specs.Announced.{announce_length, refusal_of, announced_of};
 
 use crate::fields::{ANNOUNCE, Announce, Header};
-use refusal::{Outcome, Refusal};
-use tlv::walk::Sound;
+use refusal::Refusal;
 
 #[derive(Clone, Copy)]
 pub struct Heard {
     pub header: Header,
     pub announce: Announce,
     pub flags: u16,
-}
-
-// An Announce, or the number that refuses it.
-#[derive(Clone, Copy)]
-pub enum Announced {
-    Whole(Heard),
-    Refused(Refusal),
 }
 
 // messageLength of octets that are an Announce as far as version, type and lengths go; 0 of any others.
@@ -48,30 +40,30 @@ fn refusal_of(s: &[u8], magic: u16) -> Refusal
     ensures { result ≡ refusal_of magic s.now }
 {
     match crate::reading::check(s, magic) {
-        Outcome::Refused(x) => x,
-        Outcome::Done => Refusal::Type,
+        Err(x) => x,
+        Ok(()) => Refusal::Type,
     }
 }
 
 // The reading checks, then 3 if it is another message. An Announce in which nothing is wrong is read in one walk over its
 // tail; what is wrong with any other octets is left to the checks.
-pub fn read_announce(s: &[u8], magic: u16) -> Announced
+pub fn read_announce(s: &[u8], magic: u16) -> Result<Heard, Refusal>
     ensures { result ≡ announced_of magic s.now }
 {
     let length = announce_length(s);
     if length == 0 {
-        return Announced::Refused(refusal_of(s, magic));
+        return Err(refusal_of(s, magic));
     }
     let nanoseconds = octets::held::u32_at(s, 40);
     if refusal::SECOND_NANOS <= nanoseconds {
-        return Announced::Refused(refusal_of(s, magic));
+        return Err(refusal_of(s, magic));
     }
     let t = &s[64..length];
-    let Sound::FirstAt(p) = tlv::walk::sound_suffix(t, magic) else {
-        return Announced::Refused(refusal_of(s, magic));
+    let Some(p) = tlv::walk::sound_suffix(t, magic) else {
+        return Err(refusal_of(s, magic));
     };
     let flags = tlv::wr::wr_flags(tlv::wr::suffix_at(t, p));
-    Announced::Whole(Heard {
+    Ok(Heard {
         header: crate::fields::header_of(s),
         announce: crate::fields::announce_of(s, nanoseconds),
         flags,

@@ -4,15 +4,8 @@ ghost use Rattle.tlv.specs.Faults.{fault_of};
 ghost use Rattle.message.specs.Reading.{bad_stamp, IsPlaced, fault_check, check_of, takes_of};
 
 use crate::fields::{Message, SIGNALING};
-use refusal::{Outcome, Refusal};
+use refusal::Refusal;
 use tlv::walk::Fault;
-
-// A message, or the number that refuses it.
-#[derive(Clone, Copy)]
-pub enum Reading {
-    Whole(Message),
-    Refused(Refusal),
-}
 
 // Whether the octets carry a timestamp of 10^9 nanoseconds or more. A Signaling has an identity in that place.
 pub fn bad_stamp(s: &[u8], kind: u8) -> bool
@@ -34,19 +27,19 @@ pub fn place_in(size: usize, p: usize) -> u16
 }
 
 // What a fault of the tail refuses, with its place in the message.
-fn fault_check(size: usize, x: Fault) -> Outcome
+fn fault_check(size: usize, x: Result<(), Fault>) -> Result<(), Refusal>
     requires { IsPlaced size x }
     ensures { result ≡ fault_check size x }
 {
     match x {
-        Fault::Sound => Outcome::Done,
-        Fault::Broken(p) => Outcome::Refused(Refusal::Tlv(place_in(size, p))),
-        Fault::Misfit(p) => Outcome::Refused(Refusal::WrBad(place_in(size, p))),
+        Ok(()) => Ok(()),
+        Err(Fault::Broken(p)) => Err(Refusal::Tlv(place_in(size, p))),
+        Err(Fault::Misfit(p)) => Err(Refusal::WrBad(place_in(size, p))),
     }
 }
 
 // The checks of a tail behind a fixed part of `size` octets: 6, then 7.
-pub fn tail_check(t: &[u8], size: usize, magic: u16) -> Outcome
+pub fn tail_check(t: &[u8], size: usize, magic: u16) -> Result<(), Refusal>
     requires { size + length t.now < 65536 }
     ensures { result ≡ fault_check size (fault_of magic t.now) }
 {
@@ -54,48 +47,48 @@ pub fn tail_check(t: &[u8], size: usize, magic: u16) -> Outcome
 }
 
 // The checks: under 34 octets, 2, 3, 4, messageLength, 5, then the tail's 6 and 7.
-pub fn check(s: &[u8], magic: u16) -> Outcome
+pub fn check(s: &[u8], magic: u16) -> Result<(), Refusal>
     ensures { result ≡ check_of magic s.now }
 {
     if s.len() < 34 {
-        return Outcome::Refused(Refusal::Short);
+        return Err(Refusal::Short);
     }
     if s[1] % 16 != 2 {
-        return Outcome::Refused(Refusal::Version);
+        return Err(Refusal::Version);
     }
     let kind = s[0] % 16;
     let size = crate::fields::fixed_size(kind);
     if size == 0 {
-        return Outcome::Refused(Refusal::Type);
+        return Err(Refusal::Type);
     }
     let length = octets::held::u16_at(s, 2) as usize;
     if length < size {
-        return Outcome::Refused(Refusal::Length);
+        return Err(Refusal::Length);
     }
     if s.len() < length {
-        return Outcome::Refused(Refusal::Short);
+        return Err(Refusal::Short);
     }
     if bad_stamp(s, kind) {
-        return Outcome::Refused(Refusal::Stamp);
+        return Err(Refusal::Stamp);
     }
     if length == size {
-        return Outcome::Done;
+        return Ok(());
     }
     let tail = &s[size..length];
     tail_check(tail, size, magic)
 }
 
 // The checks of a call that takes messages of one type: those of reading, then 3 if it is another message.
-pub fn takes(s: &[u8], kind: u8, magic: u16) -> Outcome
+pub fn takes(s: &[u8], kind: u8, magic: u16) -> Result<(), Refusal>
     ensures { result ≡ takes_of magic kind s.now }
 {
     match check(s, magic) {
-        Outcome::Refused(x) => Outcome::Refused(x),
-        Outcome::Done => {
+        Err(x) => Err(x),
+        Ok(()) => {
             if s[0] % 16 == kind {
-                Outcome::Done
+                Ok(())
             } else {
-                Outcome::Refused(Refusal::Type)
+                Err(Refusal::Type)
             }
         }
     }

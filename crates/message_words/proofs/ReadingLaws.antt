@@ -1,4 +1,5 @@
 -- Words stored one after the other, and the type of a body that was read.
+use Rattle.std.specs.Prelude.{Result, Ok, Err}
 use Prim.Native.Nat.{ℕ, ◌-◌}
 use mathlib.Core.Path.{◌≡◌, refl, sym, ap, ◌∙◌}
 use mathlib.Core.List.{List, [], ◌∷◌, ◌++◌}
@@ -9,8 +10,6 @@ use lib.Dec.{eqb}
 use lib.ListN.{length, take, drop, set, drop_of_length-le}
 use Rattle.octets.proofs.Laws.{opened, open_list}
 use Rattle.refusal.specs.Refusal.{code_of}
-use Rattle.refusal.specs.declared.Outcome.{Outcome}
-use Rattle.refusal.specs.declared.Outcome.TheVariants.{Done, Refused}
 use Rattle.layout.specs.Layout.{kind_of, size_of}
 use Rattle.message.specs.Fields.{type_of, fixed_size, body_of}
 use Rattle.message.specs.Reading.{check_of, read_of}
@@ -19,6 +18,7 @@ use Rattle.contents.specs.Sound.{bounds_at}
 use Rattle.contents.specs.declared.sound.Bounds.{Bounds}
 use Rattle.message.proofs.Laws.{accepted, bounded, tail_length}
 use Rattle.message_words.specs.Answers.{read_code, read_words, tail_words}
+use Rattle.refusal.specs.declared.Refusal.{Refusal}
 
 -- twenty words are the twenty that stand in them
 twenty : (w : List ℕ) → length w ≡ 20 → w ≡ opened 20 w []
@@ -62,18 +62,18 @@ kind_listed s =
 
 -- a message that the checks refuse changes no words, and the number returned is theirs
 module _ (magic : ℕ) (s : List ℕ) where
-  pub unread : (check_of magic s ≡ Done → ⊥) → (w t : List ℕ) (n : ℕ)
+  pub unread : (check_of magic s ≡ Ok tt → ⊥) → (w t : List ℕ) (n : ℕ)
       → (code_of (check_of magic s) ≡ read_code (read_of magic s)) × ((w ≡ read_words (read_of magic s) w) × (t ≡ tail_words (read_of magic s) n t))
   unfolding read_of
   unread h w t n = cases (check_of magic s) refl
     where
-      cases : (o : Outcome) → check_of magic s ≡ o
+      cases : (o : Result (Unit {0}) Refusal) → check_of magic s ≡ o
           → (code_of (check_of magic s) ≡ read_code (read_of magic s)) × ((w ≡ read_words (read_of magic s) w) × (t ≡ tail_words (read_of magic s) n t))
-      cases Done e = absurd (h e)
-      cases (Refused x) e = rw e (refl, (refl, refl))
+      cases (Ok tt) e = absurd (h e)
+      cases (Err x) e = rw e (refl, (refl, refl))
 
   -- the tail of one that they accept lies between its lengths
-  pub tail_read : check_of magic s ≡ Done → {b : Bounds} → b ≡ bounds_at s → b.size ∷ (b.length - b.size) ∷ []
+  pub tail_read : check_of magic s ≡ Ok tt → {b : Bounds} → b ≡ bounds_at s → b.size ∷ (b.length - b.size) ∷ []
       ≡ size_of (body_of s) ∷ length (tail_in magic s) ∷ []
   unfolding tail_in
   tail_read d {b} e =

@@ -1,20 +1,16 @@
 -- Messages in words whose numbers are all different, written out: an exchange of two words breaks the table, also where definition and code are changed
 -- alike. include/dzervolat.h has the same order.
+use Rattle.std.specs.Prelude.{Some, Ok}
 use Prim.Native.Nat.{ℕ}
 use mathlib.Core.Path.{◌≡◌, refl}
 use mathlib.Core.List.{List, [], ◌∷◌}
 use lib.IntN.{negsuc}
-use Rattle.refusal.specs.declared.Outcome.TheVariants as outcome
 use Rattle.octets.specs.Be.{be}
 use Rattle.tlv.specs.declared.wr.LinkMessage.TheVariants.{SlavePresent, Lock, Locked, Calibrate, Calibrated, ModeOn}
 use Rattle.message.specs.declared.fields.Header.{Header}
 use Rattle.message.specs.declared.fields.Body.{Body}
 use Rattle.message.specs.declared.fields.Body.TheVariants as body
 use Rattle.message.specs.declared.fields.Message.{Message}
-use Rattle.message.specs.declared.reading.Reading.TheVariants as reading
-use Rattle.contents.specs.declared.parts.TlvRead.TheVariants as lookup
-use Rattle.contents.specs.declared.tlvs.Walked.TheVariants as walk
-use Rattle.contents.specs.declared.parts.SuffixRead.TheVariants as flags
 use Rattle.message.specs.Fields.{fixed_size}
 use Rattle.message_words.specs.Words.{message_words, body_words, message_of, header_of, body_of, announce_of}
 use Rattle.message_words.specs.Answers.{tail_words, tlv_words, walked_words, suffix_words, origin_words, link_message_words}
@@ -112,11 +108,11 @@ pub record Links : Type 0 where
   pub mode_on : link_message_words ModeOn ≡ 0x1005 ∷ 0 ∷ 0 ∷ 0 ∷ 0 ∷ 0 ∷ []
   pub calibrate_in : link_message_of (0x1003 ∷ 31 ∷ 32 ∷ 33 ∷ 34 ∷ 35 ∷ []) ≡ Calibrate 31 32 33
   pub calibrated_in : link_message_of (0x1004 ∷ 31 ∷ 32 ∷ 33 ∷ 34 ∷ 35 ∷ []) ≡ Calibrated 34 35
-  pub tail : tail_words (reading.Whole (with_body announced)) 41 [] ≡ 64 ∷ 41 ∷ []
-  pub tlv : tlv_words (lookup.Found 42) 43 [] ≡ 1 ∷ 42 ∷ 43 ∷ []
-  pub walked : walked_words (walk.Next (record { place = 70; kind = 3; length = 10 })) [] ≡ 1 ∷ 70 ∷ 3 ∷ 10 ∷ 74 ∷ 84 ∷ []
-  pub suffix : suffix_words (flags.Flags 7) [] ≡ 1 ∷ 7 ∷ []
-  pub stamp : origin_words outcome.Done (0 ∷ 0 ∷ 0 ∷ 0 ∷ 1 ∷ 2 ∷ 0 ∷ 0 ∷ 3 ∷ 4 ∷ []) [] ≡ 258 ∷ 772 ∷ []
+  pub tail : tail_words (Ok (with_body announced)) 41 [] ≡ 64 ∷ 41 ∷ []
+  pub tlv : tlv_words (Ok (Some 42)) 43 [] ≡ 1 ∷ 42 ∷ 43 ∷ []
+  pub walked : walked_words (Ok (Some (record { place = 70; kind = 3; length = 10 }))) [] ≡ 1 ∷ 70 ∷ 3 ∷ 10 ∷ 74 ∷ 84 ∷ []
+  pub suffix : suffix_words (Ok (Some 7)) [] ≡ 1 ∷ 7 ∷ []
+  pub stamp : origin_words (Ok tt) (0 ∷ 0 ∷ 0 ∷ 0 ∷ 1 ∷ 2 ∷ 0 ∷ 0 ∷ 3 ∷ 4 ∷ []) [] ≡ 258 ∷ 772 ∷ []
 
 pub links : Links
 unfolding link_message_of be fixed_size

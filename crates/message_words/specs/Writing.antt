@@ -1,14 +1,13 @@
 -- What writing is handed in words, and what it answers.
-use Rattle.std.specs.Prelude.{ℕ, ◌%◌, Bool, List, [], ◌∷◌, eqb, get_or, take}
+use Rattle.std.specs.Prelude.{ℕ, ◌%◌, Bool, List, [], ◌∷◌, eqb, get_or, take, Result, Ok, Err}
 use Rattle.refusal.specs.Choice.{pick}
 use Rattle.rank.specs.Order.{same}
 use Rattle.tlv.specs.Numbers.{SLAVE-PRESENT, LOCK, LOCKED, CALIBRATE, CALIBRATED}
 use Rattle.tlv.specs.declared.wr.LinkMessage.{LinkMessage}
 use Rattle.tlv.specs.declared.wr.LinkMessage.TheVariants.{SlavePresent, Lock, Locked, Calibrate, Calibrated, ModeOn}
 pub use Rattle.writer.specs.Writing.{written_code}
-use Rattle.writer.specs.declared.writing.Written.{Written}
-use Rattle.writer.specs.declared.writing.Written.TheVariants.{Octets, Refused}
 use Rattle.message_words.specs.Answers.{link_message_words}
+use Rattle.refusal.specs.declared.Refusal.{Refusal}
 
 -- NUMBER PATTERN RETRY PERIOD TX RX
 unfoldable pub link_message_of : List ℕ → LinkMessage
@@ -29,6 +28,6 @@ abbrev pub is_link : List ℕ → Bool
 is_link w = same (take (link_words_for (get_or w 0 0)) (link_message_words (link_message_of w))) (take (link_words_for (get_or w 0 0)) w)
 
 -- how many octets were written
-abbrev pub written_words : Written → List ℕ → List ℕ
-written_words (Octets n) out = n ∷ []
-written_words (Refused x) out = out
+abbrev pub written_words : Result ℕ Refusal → List ℕ → List ℕ
+written_words (Ok n) out = n ∷ []
+written_words (Err x) out = out

@@ -4,22 +4,22 @@ ghost use Rattle.std.specs.Prelude.{◌≡◌, ◌≤◌, length};
 ghost use Rattle.message_words.specs.Answers.{tlv_code, tlv_words, walked_code, walked_words, suffix_code, suffix_words, link_message_words, link_code, link_words};
 ghost use Rattle.message_words.specs.Reading.{stamp_words};
 
-use contents::parts::{LinkRead, SuffixRead, TlvRead};
-use contents::tlvs::Walked;
+use contents::tlvs::Tlv;
+use refusal::Refusal;
 use tlv::wr::LinkMessage;
 
 // A TLV looked up: 1, where its data begin in the message and how many octets they are, or zeros.
-pub fn put_tlv(out: &mut [u64; 3], x: TlvRead, length: usize) -> u64
+pub fn put_tlv(out: &mut [u64; 3], x: Result<Option<usize>, Refusal>, length: usize) -> u64
     ensures answer { result ≡ tlv_code x }
     ensures words { out.new ≡ tlv_words x length out.old }
 {
     match x {
-        TlvRead::Refused(y) => refusal::answer(y),
-        TlvRead::Absent => {
+        Err(y) => refusal::answer(y),
+        Ok(None) => {
             *out = [0; 3];
             0
         }
-        TlvRead::Found(at) => {
+        Ok(Some(at)) => {
             *out = [1, at as u64, length as u64];
             0
         }
@@ -27,17 +27,17 @@ pub fn put_tlv(out: &mut [u64; 3], x: TlvRead, length: usize) -> u64
 }
 
 // A TLV of a message: 1, where it stands, its type, how many octets of data it has, where they begin and where it ends; or zeros.
-pub fn put_walked(out: &mut [u64; 6], x: Walked) -> u64
+pub fn put_walked(out: &mut [u64; 6], x: Result<Option<Tlv>, Refusal>) -> u64
     ensures answer { result ≡ walked_code x }
     ensures words { out.new ≡ walked_words x out.old }
 {
     match x {
-        Walked::Refused(y) => refusal::answer(y),
-        Walked::End => {
+        Err(y) => refusal::answer(y),
+        Ok(None) => {
             *out = [0; 6];
             0
         }
-        Walked::Next(v) => {
+        Ok(Some(v)) => {
             let at = v.place as u64;
             let n = v.length as u64;
             *out = [1, at, v.kind as u64, n, at + 4, at + 4 + n];
@@ -47,17 +47,17 @@ pub fn put_walked(out: &mut [u64; 6], x: Walked) -> u64
 }
 
 // The suffix of an Announce: 1 and wrFlags, or zeros.
-pub fn put_suffix(out: &mut [u64; 2], x: SuffixRead) -> u64
+pub fn put_suffix(out: &mut [u64; 2], x: Result<Option<u16>, Refusal>) -> u64
     ensures answer { result ≡ suffix_code x }
     ensures words { out.new ≡ suffix_words x out.old }
 {
     match x {
-        SuffixRead::Refused(y) => refusal::answer(y),
-        SuffixRead::Absent => {
+        Err(y) => refusal::answer(y),
+        Ok(None) => {
             *out = [0; 2];
             0
         }
-        SuffixRead::Flags(flags) => {
+        Ok(Some(flags)) => {
             *out = [1, flags as u64];
             0
         }
@@ -96,17 +96,17 @@ pub fn link_message_words(m: LinkMessage) -> [u64; 6]
 }
 
 // The link message of a Signaling: 1 and its six words, or zeros.
-pub fn put_link(out: &mut [u64; 7], x: LinkRead) -> u64
+pub fn put_link(out: &mut [u64; 7], x: Result<Option<LinkMessage>, Refusal>) -> u64
     ensures answer { result ≡ link_code x }
     ensures words { out.new ≡ link_words x out.old }
 {
     match x {
-        LinkRead::Refused(y) => refusal::answer(y),
-        LinkRead::Absent => {
+        Err(y) => refusal::answer(y),
+        Ok(None) => {
             *out = [0; 7];
             0
         }
-        LinkRead::Message(m) => {
+        Ok(Some(m)) => {
             let w = link_message_words(m);
             *out = [1, w[0], w[1], w[2], w[3], w[4], w[5]];
             0

@@ -6,8 +6,7 @@ ghost use Rattle.layout.specs.Layout.{kind_of, control_of, size_of, header_octet
 ghost use Rattle.writer.specs.Writing.{stamp_fits, body_fits, write_check, write_of, buffer_of};
 ghost use Rattle.message_words.specs.Words.{stamp_of, header_of, body_of, message_of};
 
-use refusal::{Outcome, Refusal};
-use writer::writing::Written;
+use refusal::Refusal;
 
 // The nanoseconds of a second, as a word.
 const NANOS: u64 = refusal::SECOND_NANOS as u64;
@@ -80,26 +79,26 @@ fn body_holds(w: &[u64; 20]) -> bool
 }
 
 // The checks: 18, then 16 against the room there is.
-fn check(w: &[u64; 20], tail: &[u8], magic: u16, room: usize) -> Outcome
+fn check(w: &[u64; 20], tail: &[u8], magic: u16, room: usize) -> Result<(), Refusal>
     ensures { result ≡ write_check magic (message_of w.now) tail.now room }
 {
     if w[1] % 256 >= 16 {
-        return Outcome::Refused(Refusal::Field);
+        return Err(Refusal::Field);
     }
     if !body_holds(w) {
-        return Outcome::Refused(Refusal::Field);
+        return Err(Refusal::Field);
     }
     let size = size_of(w);
     if tail.len() > 65535 - size {
-        return Outcome::Refused(Refusal::Field);
+        return Err(Refusal::Field);
     }
     match message::reading::tail_check(tail, size, magic) {
-        Outcome::Refused(_) => Outcome::Refused(Refusal::Field),
-        Outcome::Done => {
+        Err(_) => Err(Refusal::Field),
+        Ok(()) => {
             if room < size + tail.len() {
-                Outcome::Refused(Refusal::Room)
+                Err(Refusal::Room)
             } else {
-                Outcome::Done
+                Ok(())
             }
         }
     }
@@ -141,19 +140,19 @@ fn put_body(out: &mut [u8], w: &[u64; 20])
 }
 
 // The message and its tail go into the front of the buffer.
-pub fn write(out: &mut [u8], w: &[u64; 20], tail: &[u8], magic: u16) -> Written
+pub fn write(out: &mut [u8], w: &[u64; 20], tail: &[u8], magic: u16) -> Result<usize, Refusal>
     ensures answer { result ≡ write_of magic (message_of w.now) tail.now out.old }
     ensures buffer { out.new ≡ buffer_of magic (message_of w.now) tail.now out.old }
 {
     match check(w, tail, magic, out.len()) {
-        Outcome::Refused(x) => Written::Refused(x),
-        Outcome::Done => {
+        Err(x) => Err(x),
+        Ok(()) => {
             let size = size_of(w);
             let n = size + tail.len();
             put_header(out, w, n as u16);
             put_body(out, w);
             stores::copy_in(out, size, tail);
-            Written::Octets(n)
+            Ok(n)
         }
     }
 }

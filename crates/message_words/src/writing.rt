@@ -2,9 +2,9 @@
 ghost use Rattle.std.specs.Prelude.{◌≡◌, ◌≤◌};
 ghost use Rattle.message_words.specs.Writing.{link_message_of, link_words_for, is_link, written_code, written_words};
 
+use refusal::Refusal;
 use crate::answers::{CALIBRATE, CALIBRATED, LOCK, LOCKED, SLAVE_PRESENT};
 use tlv::wr::LinkMessage;
-use writer::writing::Written;
 
 // The link message in six words; a number that is none of the six is not this message's, and `is_link` refuses it.
 pub fn link_message_of(w: &[u64; 6]) -> LinkMessage
@@ -43,13 +43,13 @@ pub fn is_link(w: &[u64; 6]) -> bool
 }
 
 // How many octets the message has that was written.
-pub fn put_written(out: &mut [u64; 1], x: Written) -> u64
+pub fn put_written(out: &mut [u64; 1], x: Result<usize, Refusal>) -> u64
     ensures answer { result ≡ written_code x }
     ensures words { out.new ≡ written_words x out.old }
 {
     match x {
-        Written::Refused(y) => refusal::answer(y),
-        Written::Octets(n) => {
+        Err(y) => refusal::answer(y),
+        Ok(n) => {
             *out = [n as u64];
             0
         }

@@ -1,5 +1,6 @@
 -- Ignored means ignored: a Sync and a Follow_Up that differ from others only in reserved fields, controlField and padding
 -- give the same origin time, or the same number.
+use Rattle.std.specs.Prelude.{Ok, Err}
 use Prim.Native.Nat.{ℕ, ◌/◌, ◌%◌}
 use mathlib.Core.Path.{◌≡◌, refl, ◌∙◌}
 use mathlib.Core.List.{List, []}
@@ -7,7 +8,6 @@ use mathlib.Core.Bool.{Bool, true, false, not, ◌&&◌}
 use lib.Dec.{eqb}
 use Rattle.refusal.specs.Choice.{pick, refuse}
 use Rattle.refusal.specs.declared.Refusal.TheVariants.{«Type»}
-use Rattle.refusal.specs.declared.Outcome.TheVariants.{Done, Refused}
 use Rattle.message.specs.Reading.{by, takes_of}
 use Rattle.message.specs.Ignored.{Alike}
 use Rattle.message.proofs.Ignored.{type_same, header_same, octet_six, by_same, by_under, accepted_stamp}
@@ -18,7 +18,7 @@ module _ (magic : ℕ) (a b : List ℕ) (s : Alike a b) where
   takes_same : (kind : ℕ) → takes_of magic kind a ≡ takes_of magic kind b
   unfolding takes_of
   takes_same kind =
-      by_same a b s magic Refused (λ e. λ i. refuse (not (eqb (type_same a b s i) kind)) (Refused «Type») Done)
+      by_same a b s magic Err (λ e. λ i. refuse (not (eqb (type_same a b s i) kind)) (Err «Type») (Ok tt))
 
   bit_same : is_two_step a ≡ is_two_step b
   bit_same = λ i. eqb (octet_six a b s i / 2 % 2) 1
@@ -37,14 +37,14 @@ module _ (magic : ℕ) (sync sync' follow follow' : List ℕ) (s : Alike sync sy
 
   follow_same : follow_check magic sync follow ≡ follow_check magic sync' follow'
   unfolding follow_check
-  follow_same = λ i. by (takes_same magic follow follow' f 0x8 i) Refused (refuse (not (follows_same i)) (Refused «Type») Done)
+  follow_same = λ i. by (takes_same magic follow follow' f 0x8 i) Err (refuse (not (follows_same i)) (Err «Type») (Ok tt))
 
   -- THE SAME NUMBER
   pub origin_check_same : origin_check magic sync follow ≡ origin_check magic sync' follow'
   unfolding origin_check
-  origin_check_same = λ i. by (takes_same magic sync sync' s 0x0 i) Refused (pick (bit_same magic sync sync' s i) (follow_same i) Done)
+  origin_check_same = λ i. by (takes_same magic sync sync' s 0x0 i) Err (pick (bit_same magic sync sync' s i) (follow_same i) (Ok tt))
 
-  stamp_same : origin_check magic sync follow ≡ Done → (t : Bool) → is_two_step sync ≡ t → stamp_part (pick t follow sync) ≡ stamp_part (pick t follow' sync')
+  stamp_same : origin_check magic sync follow ≡ Ok tt → (t : Bool) → is_two_step sync ≡ t → stamp_part (pick t follow sync) ≡ stamp_part (pick t follow' sync')
   stamp_same e true t = accepted_stamp follow follow' f magic (follow_taken magic sync follow e t).0.checked
   stamp_same e false t = accepted_stamp sync sync' s magic (sync_taken magic sync follow e).checked
 

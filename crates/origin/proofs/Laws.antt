@@ -1,4 +1,5 @@
 -- What a Sync and a Follow_Up say that were taken.
+use Rattle.std.specs.Prelude.{Ok}
 use Prim.Native.Nat.{ℕ, ◌≤◌}
 use mathlib.Core.Path.{◌≡◌, refl}
 use mathlib.Core.List.{List}
@@ -7,16 +8,15 @@ use native.Mathlib.Omega.{arith}
 use borrow.Author.Tests.{not-false}
 use lib.ListN.{length, length-take, length-drop}
 use Rattle.refusal.proofs.Choice.{passed}
-use Rattle.refusal.specs.declared.Outcome.TheVariants.{Done}
 use Rattle.message.specs.Reading.{takes_of}
 use Rattle.message.proofs.Laws.{no_refusal, both_done, Taken, taken}
 use Rattle.origin.specs.Origin.{is_two_step, follows, follow_check, origin_check, Stamped, holder, stamp_part}
 
-pub sync_taken : (magic : ℕ) (s f : List ℕ) → origin_check magic s f ≡ Done → Taken magic 0x0 s
+pub sync_taken : (magic : ℕ) (s f : List ℕ) → origin_check magic s f ≡ Ok tt → Taken magic 0x0 s
 unfolding origin_check
 sync_taken magic s f e = taken magic 0x0 s (both_done (takes_of magic 0x0 s) _ e).0
 
-pub follow_taken : (magic : ℕ) (s f : List ℕ) → origin_check magic s f ≡ Done → is_two_step s ≡ true → Taken magic 0x8 f × (follows s f ≡ true)
+pub follow_taken : (magic : ℕ) (s f : List ℕ) → origin_check magic s f ≡ Ok tt → is_two_step s ≡ true → Taken magic 0x8 f × (follows s f ≡ true)
 unfolding origin_check follow_check
 follow_taken magic s f e t =
     let p = both_done (takes_of magic 0x0 s) _ e in
@@ -24,7 +24,7 @@ follow_taken magic s f e t =
     (taken magic 0x8 f q.0, not-false _ (passed _ _ _ _ (no_refusal _) q.1).0)
 
 -- so the messages that are looked at have their timestamps
-pub origin_stamped : (magic : ℕ) (s f : List ℕ) → origin_check magic s f ≡ Done → Stamped s f
+pub origin_stamped : (magic : ℕ) (s f : List ℕ) → origin_check magic s f ≡ Ok tt → Stamped s f
 origin_stamped magic s f e =
     record { own = (sync_taken magic s f e).fixed; other = λ t. (follow_taken magic s f e t).0.fixed }
 

@@ -1,5 +1,6 @@
 -- Origin time's part: which message it is a part of, that it is empty exactly where the call refuses, and that a
 -- Follow_Up makes no difference to a Sync without the two-step bit.
+use Rattle.std.specs.Prelude.{Ok, Err}
 use Prim.Native.Nat.{ℕ, ◌≤◌}
 use mathlib.Core.Path.{◌≡◌, refl, ap, ◌∙◌}
 use mathlib.Core.List.{List, []}
@@ -7,23 +8,22 @@ use mathlib.Core.Bool.{Bool, true, false}
 use native.Mathlib.Omega.{arith}
 use lib.ListN.{length, take, drop, length-take, length-drop}
 use Rattle.refusal.specs.declared.Refusal.{Refusal}
-use Rattle.refusal.specs.declared.Outcome.TheVariants.{Done, Refused}
 use Rattle.origin.specs.Origin.{is_two_step, origin_check, stamp_part, origin_in}
 use Rattle.origin.proofs.Laws.{sync_taken, follow_taken}
 
 module _ (magic : ℕ) (s f : List ℕ) where
   -- "it is empty if refused"
-  pub empty_if_refused : (x : Refusal) → origin_check magic s f ≡ Refused x → origin_in magic s f ≡ []
+  pub empty_if_refused : (x : Refusal) → origin_check magic s f ≡ Err x → origin_in magic s f ≡ []
   unfolding origin_in
   empty_if_refused x e = rw e
 
   -- octets 34 to 43 of the Follow_Up
-  pub of_follow : origin_check magic s f ≡ Done → is_two_step s ≡ true → origin_in magic s f ≡ take 10 (drop 34 f)
+  pub of_follow : origin_check magic s f ≡ Ok tt → is_two_step s ≡ true → origin_in magic s f ≡ take 10 (drop 34 f)
   unfolding origin_in
   of_follow e t = rw (e, t)
 
   -- octets 34 to 43 of the Sync
-  pub of_sync : origin_check magic s f ≡ Done → is_two_step s ≡ false → origin_in magic s f ≡ take 10 (drop 34 s)
+  pub of_sync : origin_check magic s f ≡ Ok tt → is_two_step s ≡ false → origin_in magic s f ≡ take 10 (drop 34 s)
   unfolding origin_in
   of_sync e t = rw (e, t)
 
@@ -31,7 +31,7 @@ module _ (magic : ℕ) (s f : List ℕ) where
   ten l h = simp (length-take, length-drop) (omega arith)
 
   -- ten octets where it is not refused
-  pub ten_if_done : origin_check magic s f ≡ Done → length (origin_in magic s f) ≡ 10
+  pub ten_if_done : origin_check magic s f ≡ Ok tt → length (origin_in magic s f) ≡ 10
   ten_if_done e = by (is_two_step s) refl
     where
       by : (b : Bool) → is_two_step s ≡ b → length (origin_in magic s f) ≡ 10
@@ -39,7 +39,7 @@ module _ (magic : ℕ) (s f : List ℕ) where
       by false t = ap length (of_sync e t) ∙ ten s (sync_taken magic s f e).fixed
 
   -- so it is empty only if refused
-  pub refused_if_empty : origin_in magic s f ≡ [] → origin_check magic s f ≡ Done → ⊥
+  pub refused_if_empty : origin_in magic s f ≡ [] → origin_check magic s f ≡ Ok tt → ⊥
   refused_if_empty e d = omega (arith, ten_if_done d, ap length e)
 
 -- "without it .. the Follow_Up is not looked at"

@@ -1,11 +1,10 @@
 -- Origin time (01, "Octets of a message": "The origin time of a Sync is ..").
-use Rattle.std.specs.Prelude.{ℕ, ◌/◌, ◌%◌, ◌≤◌, ◌≡◌, List, [], Bool, true, not, ◌&&◌, eqb, length, get_or, take, drop}
+use Rattle.std.specs.Prelude.{ℕ, ◌/◌, ◌%◌, ◌≤◌, ◌≡◌, List, [], Bool, true, not, ◌&&◌, eqb, length, get_or, take, drop, Result, Ok, Err}
 use Rattle.refusal.specs.Choice.{pick, refuse}
 use Rattle.refusal.specs.declared.Refusal.TheVariants.{«Type»}
-use Rattle.refusal.specs.declared.Outcome.{Outcome}
-use Rattle.refusal.specs.declared.Outcome.TheVariants as outcome
 use Rattle.message.specs.Fields.{header_of}
 use Rattle.message.specs.Reading.{by, takes_of}
+use Rattle.refusal.specs.declared.Refusal.{Refusal}
 
 -- "with the two-step bit (0x02 of octet 6)"
 abbrev pub is_two_step : List ℕ → Bool
@@ -22,15 +21,15 @@ follows sync follow =
     && eqb a.sequence b.sequence
 
 -- the Follow_Up's checks, "a mismatch last"
-unfoldable pub follow_check : ℕ → List ℕ → List ℕ → Outcome
+unfoldable pub follow_check : ℕ → List ℕ → List ℕ → Result (Unit {0}) Refusal
 follow_check magic sync follow =
-    by (takes_of magic 0x8 follow) outcome.Refused
-    (refuse (not (follows sync follow)) (outcome.Refused «Type») outcome.Done)
+    by (takes_of magic 0x8 follow) Err
+    (refuse (not (follows sync follow)) (Err «Type») (Ok tt))
 
 -- "The Sync is checked first"; without the bit "the Follow_Up is not looked at"
-unfoldable pub origin_check : ℕ → List ℕ → List ℕ → Outcome
+unfoldable pub origin_check : ℕ → List ℕ → List ℕ → Result (Unit {0}) Refusal
 origin_check magic sync follow =
-    by (takes_of magic 0x0 sync) outcome.Refused (pick (is_two_step sync) (follow_check magic sync follow) outcome.Done)
+    by (takes_of magic 0x0 sync) Err (pick (is_two_step sync) (follow_check magic sync follow) (Ok tt))
 
 -- the message that holds the origin time: "with the two-step bit .. its Follow_Up; without it, its own"
 abbrev pub holder : List ℕ → List ℕ → List ℕ

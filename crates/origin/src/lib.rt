@@ -9,7 +9,7 @@ ghost use Rattle.std.specs.Prelude.{◌≡◌, ◌≤◌, length};
 ghost use Rattle.origin.specs.Origin.{is_two_step, follows, follow_check, origin_check, Stamped, stamp_part, holder, origin_in};
 
 use message::fields::{FOLLOW_UP, SYNC};
-use refusal::{Outcome, Refusal};
+use refusal::Refusal;
 
 // Whether a Follow_Up has the sender, the domain and the sequenceId of a Sync.
 fn is_of(sync: &[u8], follow: &[u8]) -> bool
@@ -24,17 +24,17 @@ fn is_of(sync: &[u8], follow: &[u8]) -> bool
 }
 
 // The checks of the Follow_Up of a two-step Sync.
-fn follow_says(sync: &[u8], follow: &[u8], magic: u16) -> Outcome
+fn follow_says(sync: &[u8], follow: &[u8], magic: u16) -> Result<(), Refusal>
     requires { 34 ≤ length sync.now }
     ensures { result ≡ follow_check magic sync.now follow.now }
 {
     match message::reading::takes(follow, FOLLOW_UP, magic) {
-        Outcome::Refused(x) => Outcome::Refused(x),
-        Outcome::Done => {
+        Err(x) => Err(x),
+        Ok(()) => {
             if is_of(sync, follow) {
-                Outcome::Done
+                Ok(())
             } else {
-                Outcome::Refused(Refusal::Type)
+                Err(Refusal::Type)
             }
         }
     }
@@ -49,16 +49,16 @@ fn is_two_step(sync: &[u8]) -> bool
 }
 
 // Whether `origin` hands back a part, or why not.
-pub fn origin_says(sync: &[u8], follow: &[u8], magic: u16) -> Outcome
+pub fn origin_says(sync: &[u8], follow: &[u8], magic: u16) -> Result<(), Refusal>
     ensures { result ≡ origin_check magic sync.now follow.now }
 {
     match message::reading::takes(sync, SYNC, magic) {
-        Outcome::Refused(x) => Outcome::Refused(x),
-        Outcome::Done => {
+        Err(x) => Err(x),
+        Ok(()) => {
             if is_two_step(sync) {
                 follow_says(sync, follow, magic)
             } else {
-                Outcome::Done
+                Ok(())
             }
         }
     }
@@ -89,7 +89,7 @@ pub fn origin<'a>(sync: &'a [u8], follow: &'a [u8], magic: u16) -> &'a [u8]
     ensures { result.now ≡ origin_in magic sync.now follow.now }
 {
     match origin_says(sync, follow, magic) {
-        Outcome::Refused(_) => &sync[..0],
-        Outcome::Done => checked_origin(sync, follow),
+        Err(_) => &sync[..0],
+        Ok(()) => checked_origin(sync, follow),
     }
 }

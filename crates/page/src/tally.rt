@@ -1,7 +1,8 @@
 // What became of what each port heard, four counts a port; behind them whom the clock followed at each hour's end.
 ghost use Rattle.std.specs.Prelude.{◌<◌};
 
-use refusal::Outcome;
+use refusal::Refusal;
+
 
 // The places of a port's counts: Announces taken, refused, the number of the last refusal, and refused in this hour.
 pub const TAKEN: usize = 0;
@@ -40,10 +41,10 @@ fn raise(tally: &mut [u64; COUNTS], port: u8, k: usize) {
 }
 
 // Notes what became of an Announce on a port.
-pub fn note(tally: &mut [u64; COUNTS], port: u8, x: Outcome) {
+pub fn note(tally: &mut [u64; COUNTS], port: u8, x: Result<(), Refusal>) {
     match x {
-        Outcome::Done => raise(tally, port, TAKEN),
-        Outcome::Refused(r) => {
+        Ok(()) => raise(tally, port, TAKEN),
+        Err(r) => {
             let i = place(port, LAST);
             tally[i] = refusal::number(r);
             raise(tally, port, REFUSED);

@@ -1,5 +1,6 @@
 -- A trace on its way: the blocks from an octet on are the one that begins there and those from its end on, and what is left of a block, or of a
 -- trace, gives, after what was taken, all that the whole gives.
+use Rattle.std.specs.Prelude.{Result, Ok, Err}
 use Prim.Native.Nat.{ℕ, zero, suc, ◌+◌, ◌-◌, ◌≤◌, ◌<◌}
 use mathlib.Core.Path.{◌≡◌, refl, sym, ap, ◌∙◌}
 use mathlib.Core.List.{List, [], ◌∷◌}
@@ -11,23 +12,21 @@ use Rattle.laws.proofs.Bools.{both}
 use Rattle.refusal.specs.Choice.{refuse}
 use Rattle.refusal.specs.Limits.{is_port}
 use Rattle.refusal.specs.declared.Refusal.TheVariants.{Block}
-use Rattle.refusal.specs.declared.Outcome.TheVariants.{Refused, Done}
 use Rattle.refusal.proofs.Limits.{port_bounds}
 use Rattle.slots.proofs.Laws.{lent}
 use Rattle.words.specs.Words as named
 use Rattle.block.specs.Layout.{entries_from, entries_of, time_at, port_at, length_at, end_at, entry_at}
 use Rattle.judging.specs.Tests.{fails_check, is_laid, is_next, is_in_order, reader_after, verdict_of}
 use Rattle.judging.specs.declared.Reader.{Reader}
-use Rattle.judging.specs.declared.Verdict.{Verdict}
-use Rattle.judging.specs.declared.Verdict.TheVariants as verdict
+use Rattle.judging.specs.declared.Flaw.{Flaw}
+use Rattle.judging.specs.declared.Flaw.TheVariants as verdict
 use Rattle.ports.specs.declared.intake.Settings.{Settings}
 use Rattle.ports.specs.Intake.{plan_at, state_after}
 use Rattle.ports.specs.History.{after, run}
 use Rattle.bursts.proofs.Named.{port_is}
-use Rattle.playback.specs.declared.Replayed.{Replayed}
-use Rattle.playback.specs.declared.Replayed.TheVariants as replayed
 use Rattle.playback.specs.Playback.{call_of, calls_of, is_sound, reader_of, reader_words, accepts, block_check, words_after_block, reader_after_block, chunks, chunk_count, blocks_in, accepts_all, reader_after_all, entries_of_all}
 use Rattle.playback.proofs.Streamed.{calls_append}
+use Rattle.refusal.specs.declared.Refusal.{Refusal}
 
 -- ---- the block at an octet
 -- as it is lent: those octets that are left, or 512
@@ -73,7 +72,7 @@ module _ (s : List ℕ) (at : ℕ) (h : at < length s) (b : List ℕ) (is : b �
 -- ---- what a block is found to be
 module _ (r : Reader) (s : List ℕ) where
   sound_by : (a b c d : Bool) (x q : Reader)
-      → refuse a verdict.Check (refuse (not b) verdict.Layout (refuse (not c) verdict.Number (refuse (not d) verdict.Time (verdict.Sound x)))) ≡ verdict.Sound q
+      → refuse a (Err verdict.Check) (refuse (not b) (Err verdict.Layout) (refuse (not c) (Err verdict.Number) (refuse (not d) (Err verdict.Time) (Ok x)))) ≡ Ok q
       → (b ≡ true) × (x ≡ q)
   unfolding refuse
   sound_by true b c d x q e = absurd (let z : ◌≡◌ {A = ℕ} 0 1 = cc in omega arith)
@@ -83,35 +82,35 @@ module _ (r : Reader) (s : List ℕ) where
   sound_by false true true true x q e = (refl, cc)
 
   -- a sound block is laid out right, and its reader goes on behind it
-  pub sound_laid : (q : Reader) → verdict_of r s ≡ verdict.Sound q → (is_laid s ≡ true) × (reader_after r s ≡ q)
+  pub sound_laid : (q : Reader) → verdict_of r s ≡ Ok q → (is_laid s ≡ true) × (reader_after r s ≡ q)
   unfolding verdict_of
   sound_laid q e = sound_by (fails_check s) (is_laid s) (is_next r.next s) (is_in_order r.last (entries_of s)) (reader_after r s) q e
 
 -- a verdict that is none of a sound block
-pub unsound : (v : Verdict) → ((q : Reader) → v ≡ verdict.Sound q → ⊥) → is_sound v ≡ false
-unsound verdict.Check k = refl
-unsound verdict.Layout k = refl
-unsound verdict.Number k = refl
-unsound verdict.Time k = refl
-unsound (verdict.Sound q) k = absurd (k q refl)
+pub unsound : (v : Result Reader Flaw) → ((q : Reader) → v ≡ Ok q → ⊥) → is_sound v ≡ false
+unsound (Err verdict.Check) k = refl
+unsound (Err verdict.Layout) k = refl
+unsound (Err verdict.Number) k = refl
+unsound (Err verdict.Time) k = refl
+unsound (Ok q) k = absurd (k q refl)
 
 -- ---- looking at all blocks
 -- what the blocks that are left give
-abbrev pub replay_by : Reader → List (List ℕ) → Replayed
-replay_by r bs = refuse (not (accepts_all r bs)) (replayed.Refused Block) (replayed.Until (reader_after_all r bs).last)
+abbrev pub replay_by : Reader → List (List ℕ) → Result ℕ Refusal
+replay_by r bs = refuse (not (accepts_all r bs)) (Err Block) (Ok (reader_after_all r bs).last)
 
-pub look_end : (r : Reader) → replay_by r [] ≡ replayed.Until r.last
+pub look_end : (r : Reader) → replay_by r [] ≡ Ok r.last
 unfolding accepts_all reader_after_all refuse
 look_end r = refl
 
-pub look_stop : (r : Reader) (b : List ℕ) (bs : List (List ℕ)) → accepts r b ≡ false → replay_by r (b ∷ bs) ≡ replayed.Refused Block
+pub look_stop : (r : Reader) (b : List ℕ) (bs : List (List ℕ)) → accepts r b ≡ false → replay_by r (b ∷ bs) ≡ Err Block
 unfolding accepts_all refuse
 look_stop r b bs e = rw e
 
-pub look_more : (r q : Reader) (b : List ℕ) (bs : List (List ℕ)) → verdict_of r b ≡ verdict.Sound q → replay_by r (b ∷ bs) ≡ replay_by q bs
+pub look_more : (r q : Reader) (b : List ℕ) (bs : List (List ℕ)) → verdict_of r b ≡ Ok q → replay_by r (b ∷ bs) ≡ replay_by q bs
 unfolding accepts_all reader_after_all
 look_more r q b bs e =
-    ap (λ (t : Bool). refuse (not (t && accepts_all (reader_after r b) bs)) (replayed.Refused Block) (replayed.Until (reader_after_all (reader_after r b) bs).last)) (ap is_sound e)
+    ap (λ (t : Bool). refuse (not (t && accepts_all (reader_after r b) bs)) (Err Block) (Ok (reader_after_all (reader_after r b) bs).last)) (ap is_sound e)
     ∙ ap (λ (k : Reader). replay_by k bs) (sound_laid r b q e).1
 
 -- ---- taking the records of a block
@@ -134,12 +133,12 @@ abbrev pub AllLaid : List (List ℕ) → Type 0
 AllLaid [] = Unit {0}
 AllLaid (b ∷ bs) = (is_laid b ≡ true) × AllLaid bs
 
-laid_by : (r : Reader) (s : List ℕ) (v : Verdict) → verdict_of r s ≡ v → is_sound v ≡ true → is_laid s ≡ true
-laid_by r s verdict.Check e k = absurd (let z : ◌≡◌ {A = ℕ} 0 1 = cc in omega arith)
-laid_by r s verdict.Layout e k = absurd (let z : ◌≡◌ {A = ℕ} 0 1 = cc in omega arith)
-laid_by r s verdict.Number e k = absurd (let z : ◌≡◌ {A = ℕ} 0 1 = cc in omega arith)
-laid_by r s verdict.Time e k = absurd (let z : ◌≡◌ {A = ℕ} 0 1 = cc in omega arith)
-laid_by r s (verdict.Sound q) e k = (sound_laid r s q e).0
+laid_by : (r : Reader) (s : List ℕ) (v : Result Reader Flaw) → verdict_of r s ≡ v → is_sound v ≡ true → is_laid s ≡ true
+laid_by r s (Err verdict.Check) e k = absurd (let z : ◌≡◌ {A = ℕ} 0 1 = cc in omega arith)
+laid_by r s (Err verdict.Layout) e k = absurd (let z : ◌≡◌ {A = ℕ} 0 1 = cc in omega arith)
+laid_by r s (Err verdict.Number) e k = absurd (let z : ◌≡◌ {A = ℕ} 0 1 = cc in omega arith)
+laid_by r s (Err verdict.Time) e k = absurd (let z : ◌≡◌ {A = ℕ} 0 1 = cc in omega arith)
+laid_by r s (Ok q) e k = (sound_laid r s q e).0
 
 -- blocks that are accepted are laid out right
 pub all_laid : (r : Reader) (bs : List (List ℕ)) → accepts_all r bs ≡ true → AllLaid bs
@@ -159,12 +158,12 @@ block_taken by ws ws' b bs e =
 -- ---- a block is replayed
 module _ (by : Settings) (rs ws s : List ℕ) where
   pub block_refused : accepts (reader_of rs) s ≡ false
-      → (Refused Block ≡ block_check (reader_of rs) s) × ((ws ≡ words_after_block by (reader_of rs) ws s) × (rs ≡ reader_after_block rs s))
+      → (Err Block ≡ block_check (reader_of rs) s) × ((ws ≡ words_after_block by (reader_of rs) ws s) × (rs ≡ reader_after_block rs s))
   unfolding refuse
   block_refused e = (rw e, (rw e, rw e))
 
-  pub block_done : (q : Reader) (ws' : List ℕ) → verdict_of (reader_of rs) s ≡ verdict.Sound q → ws' ≡ run ws (calls_of by (entries_of s))
-      → (Done ≡ block_check (reader_of rs) s) × ((ws' ≡ words_after_block by (reader_of rs) ws s) × (reader_words q ≡ reader_after_block rs s))
+  pub block_done : (q : Reader) (ws' : List ℕ) → verdict_of (reader_of rs) s ≡ Ok q → ws' ≡ run ws (calls_of by (entries_of s))
+      → (Ok tt ≡ block_check (reader_of rs) s) × ((ws' ≡ words_after_block by (reader_of rs) ws s) × (reader_words q ≡ reader_after_block rs s))
   unfolding refuse
   block_done q ws' e took =
       let a : accepts (reader_of rs) s ≡ true = ap is_sound e in

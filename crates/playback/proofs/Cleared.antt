@@ -1,4 +1,5 @@
 -- Words that are cleared: they hold no record and no time, and the intervals of before, which no history changes that sets none.
+use Rattle.std.specs.Prelude.{Result, Ok, Err}
 use Prim.Native.Nat.{ℕ, zero, suc, ◌+◌, ◌-◌, ◌*◌, ◌/◌, ◌%◌, ◌≤◌, ◌<◌}
 use mathlib.Core.Path.{◌≡◌, refl, sym, ap, ◌∙◌}
 use mathlib.Core.List.{List, [], ◌∷◌}
@@ -16,15 +17,11 @@ use Rattle.refusal.proofs.Choice.{either}
 use Rattle.refusal.proofs.Limits.{port_bounds}
 use Rattle.rank.specs.Ranked.{is_port}
 use Rattle.senders.specs.declared.Notice.{Notice}
-use Rattle.senders.specs.declared.Plan.{Plan}
-use Rattle.senders.specs.declared.Plan.TheVariants.{Refuse, Put}
 use Rattle.senders.specs.Port.{tab, empty_slot, plan_of}
 use Rattle.slots.specs.Words.{record_of, words_of, port_of, put_slot, words_after}
 use Rattle.slots.proofs.Laws.{length_tab, get_d_tab, tab_ext, get_d_before}
 use Rattle.slots.proofs.Places.{plan_place}
 use Rattle.ports.specs.declared.intake.Settings.{Settings}
-use Rattle.ports.specs.declared.intake.Admitted.{Admitted}
-use Rattle.ports.specs.declared.intake.Admitted.TheVariants as admitted
 use Rattle.ports.specs.Words.{own, port_at}
 use Rattle.ports.specs.Intake.{admitted_of, plan_by}
 use Rattle.ports.specs.Interval.{is_interval, exponent_of}
@@ -32,6 +29,8 @@ use Rattle.ports.specs.History.{Call, taking, setting, asking, after, run, fresh
 use Rattle.ports.proofs.Follows.{word_of, port_of_word, own_length, after_all, by_own}
 use Rattle.playback.specs.Playback.{cleared_word, cleared}
 use Rattle.playback.specs.Live.{SetsNone, SetsOnly}
+use Rattle.senders.specs.declared.Record.{Record}
+use Rattle.refusal.specs.declared.Refusal.{Refusal}
 
 pub cleared_length : (ws : List ℕ) → length (cleared ws) ≡ 1764
 unfolding cleared
@@ -59,16 +58,16 @@ cleared_fresh =
     (λ i h. ap (λ (v : ℕ). pick (eqb (i % 98) 1) v 0) (get_d_tab 1764 (λ i. 0) i 0 h) ∙ either (eqb (i % 98) 1) 0)
 
 -- ---- a history that sets no interval leaves them
-kept_by : (l : List ℕ) (t : ℕ) (a : Notice) → length l ≡ 98 → (q : Plan) → plan_of (port_of l) t a ≡ q → get_or (words_after l t q) 1 0 ≡ get_or l 1 0
+kept_by : (l : List ℕ) (t : ℕ) (a : Notice) → length l ≡ 98 → (q : Result (ℕ × Record) Refusal) → plan_of (port_of l) t a ≡ q → get_or (words_after l t q) 1 0 ≡ get_or l 1 0
 unfolding words_of
-kept_by l t a n (Refuse x) e = refl
-kept_by l t a n (Put i r) e =
+kept_by l t a n (Err x) e = refl
+kept_by l t a n (Ok (i, r)) e =
     let h : i < 16 = plan_place l t a i r e in
     get_or-set_other (put_slot l i r) 0 1 t 0 (λ z. omega arith) ∙ get_d_before l (words_of r) (2 + 6 * i) 6 refl (omega arith) 1 (omega arith)
 
-own_kept : (l : List ℕ) (t : ℕ) (x : Admitted) → length l ≡ 98 → get_or (words_after l t (plan_by (port_of l) t x)) 1 0 ≡ get_or l 1 0
-own_kept l t (admitted.Refused x) n = refl
-own_kept l t (admitted.Notice a) n = kept_by l t a n (plan_of (port_of l) t a) refl
+own_kept : (l : List ℕ) (t : ℕ) (x : Result Notice Refusal) → length l ≡ 98 → get_or (words_after l t (plan_by (port_of l) t x)) 1 0 ≡ get_or l 1 0
+own_kept l t (Err x) n = refl
+own_kept l t (Ok a) n = kept_by l t a n (plan_of (port_of l) t a) refl
 
 module _ (ws : List ℕ) (n : length ws ≡ 1764) (by : Settings) (p t : ℕ) (s : List ℕ) where
   exponent_kept : (q : ℕ) → is_port q ≡ true → get_or (own (after ws (taking by p t s)) q) 1 0 ≡ get_or (own ws q) 1 0

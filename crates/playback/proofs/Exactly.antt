@@ -1,4 +1,5 @@
 -- TWENTY EXACTLY WHEN: a block is refused where it fails one of the four tests, and a trace where one of its blocks does behind those before it.
+use Rattle.std.specs.Prelude.{Result, Ok, Err}
 use Prim.Native.Nat.{ℕ}
 use mathlib.Core.Path.{◌≡◌, refl, sym, ap, subst, ◌∙◌}
 use mathlib.Core.List.{List, [], ◌∷◌}
@@ -10,30 +11,28 @@ use Rattle.laws.proofs.Bools.{both}
 use Rattle.refusal.specs.Choice.{refuse}
 use Rattle.refusal.specs.Refusal.{code_of}
 use Rattle.refusal.specs.declared.Refusal.TheVariants.{Block}
-use Rattle.refusal.specs.declared.Outcome.TheVariants.{Refused, Done}
 use Rattle.block.specs.Layout.{entries_of}
 use Rattle.block.specs.Check.{is_checked}
 use Rattle.judging.specs.Tests.{is_whole, fails_check, is_laid, is_next, is_in_order, reader_after, verdict_of}
 use Rattle.judging.specs.declared.Reader.{Reader}
-use Rattle.judging.specs.declared.Verdict.TheVariants as verdict
-use Rattle.playback.specs.declared.Replayed.{Replayed}
-use Rattle.playback.specs.declared.Replayed.TheVariants as replayed
+use Rattle.judging.specs.declared.Flaw.TheVariants as verdict
 use Rattle.playback.specs.Playback.{is_sound, accepts, block_check, accepts_all, blocks_in, fresh_reader, is_trace, replay_of}
 use Rattle.playback.specs.When.{replayed_code, BlockWhen, unchecked, unlaid, unnumbered, untimed, sound, BlocksWhen, none, stopped, behind, TraceWhen}
+use Rattle.refusal.specs.declared.Refusal.{Refusal}
 
 -- ---- a block
 abbrev number_by : Bool → ℕ
 number_by true = 0
 number_by false = 20
 
-code_by : (b : Bool) → code_of (refuse (not b) (Refused Block) Done) ≡ number_by b
+code_by : (b : Bool) → code_of (refuse (not b) (Err Block) (Ok tt)) ≡ number_by b
 unfolding refuse
 code_by true = refl
 code_by false = refl
 
 module _ (r : Reader) (s : List ℕ) where
   accepts_by : (a b c d : Bool) (x : Reader)
-      → is_sound (refuse a verdict.Check (refuse (not b) verdict.Layout (refuse (not c) verdict.Number (refuse (not d) verdict.Time (verdict.Sound x))))) ≡ (not a && (b && (c && d)))
+      → is_sound (refuse a (Err verdict.Check) (refuse (not b) (Err verdict.Layout) (refuse (not c) (Err verdict.Number) (refuse (not d) (Err verdict.Time) (Ok x))))) ≡ (not a && (b && (c && d)))
   unfolding refuse
   accepts_by true b c d x = refl
   accepts_by false false c d x = refl
@@ -115,7 +114,7 @@ number_blocks none = refl
 number_blocks {r} (stopped {b} {bs} w) = rw (refused_by (accepts r b) 20 (number_block r b 20 w) refl)
 number_blocks {r} (behind {b} {bs} {n} w v) = rw (accepted_by (accepts r b) 0 (number_block r b 0 w) refl) (number_blocks v)
 
-trace_by_lem : (b : Bool) (t : ℕ) → replayed_code (refuse (not b) (replayed.Refused Block) (replayed.Until t)) ≡ number_by b
+trace_by_lem : (b : Bool) (t : ℕ) → replayed_code (refuse (not b) (Err Block) (Ok t)) ≡ number_by b
 unfolding refuse
 trace_by_lem true t = refl
 trace_by_lem false t = refl
@@ -130,9 +129,9 @@ module _ (s : List ℕ) where
   when_trace n w = trace_by_lem (is_trace s) _ ∙ number_blocks w
 
   -- so 20 is given exactly when some block fails one of the tests behind those before it
-  pub twenty : replay_of s ≡ replayed.Refused Block → TraceWhen s 20
-  twenty e = subst (λ (a : Replayed). TraceWhen s (replayed_code a)) e trace_told
+  pub twenty : replay_of s ≡ Err Block → TraceWhen s 20
+  twenty e = subst (λ (a : Result ℕ Refusal). TraceWhen s (replayed_code a)) e trace_told
 
-  pub when_twenty : TraceWhen s 20 → replay_of s ≡ replayed.Refused Block
+  pub when_twenty : TraceWhen s 20 → replay_of s ≡ Err Block
   unfolding refuse
   when_twenty w = rw (refused_by (is_trace s) 20 (number_blocks w) refl)

@@ -1,5 +1,6 @@
 -- A REPLAY IS LIVE: a trace that holds a history gives the words that the history left, and so its records, candidates and decisions, however its
 -- blocks were split (02, (iv)). What is refused changes nothing.
+use Rattle.std.specs.Prelude.{Result, Ok, Err}
 use Prim.Native.Nat.{ℕ, ◌<◌}
 use mathlib.Core.Path.{◌≡◌, refl, sym, ap, ◌∙◌}
 use mathlib.Core.List.{List}
@@ -10,9 +11,6 @@ use Rattle.refusal.specs.Choice.{pick, refuse}
 use Rattle.refusal.specs.Refusal.{code_of}
 use Rattle.refusal.specs.declared.Refusal.{Refusal}
 use Rattle.refusal.specs.declared.Refusal.TheVariants.{Block}
-use Rattle.refusal.specs.declared.Outcome.TheVariants as outcome
-use Rattle.senders.specs.declared.Plan.{Plan}
-use Rattle.senders.specs.declared.Plan.TheVariants.{Refuse, Put}
 use Rattle.senders.specs.Port.{outcome_of}
 use Rattle.block.specs.Layout.{Entry}
 use Rattle.ports.specs.declared.intake.Settings.{Settings}
@@ -20,16 +18,16 @@ use Rattle.ports.specs.Intake.{plan_at, state_after}
 use Rattle.ports.specs.Asking.{candidate_on, best_on, status_of}
 use Rattle.ports.specs.History.{Call, run, fresh}
 use Rattle.ports.proofs.Follows.{run_all}
-use Rattle.playback.specs.declared.Replayed.TheVariants as replayed
 use Rattle.playback.specs.Playback.{calls_of, reader_of, accepts, block_check, words_after_block, reader_after_block, blocks_in, entries_of_all, is_trace, cleared, replay_of, replayed_from, words_after_replay}
 use Rattle.playback.specs.Live.{Holds, none, asked, recorded, left_out, SetsNone, SetsOnly}
 use Rattle.playback.proofs.Cleared.{cleared_fresh, history_leaves, settings_begin, fresh_length}
+use Rattle.senders.specs.declared.Record.{Record}
 
 -- ---- a history and its records
 -- what is refused leaves the words
-refused_leaves : (ws : List ℕ) (p t : ℕ) (q : Plan) → 0 < code_of (outcome_of q) → state_after ws p t q ≡ ws
-refused_leaves ws p t (Refuse x) h = refl
-refused_leaves ws p t (Put i r) h = absurd (omega arith)
+refused_leaves : (ws : List ℕ) (p t : ℕ) (q : Result (ℕ × Record) Refusal) → 0 < code_of (outcome_of q) → state_after ws p t q ≡ ws
+refused_leaves ws p t (Err x) h = refl
+refused_leaves ws p t (Ok (i, r)) h = absurd (omega arith)
 
 -- THE RECORDS, TAKEN ONE AFTER ANOTHER, GIVE THE WORDS OF THE HISTORY
 pub holds_run : {by : Settings} {ws : List ℕ} {cs : List Call} {es : List Entry} → Holds by ws cs es → run ws cs ≡ run ws (calls_of by es)
@@ -47,12 +45,12 @@ holds_sets_none (left_out refused h) = holds_sets_none h
 
 -- ---- a replay
 -- a trace that has a last time is accepted
-until_by : (b : Bool) (u t : ℕ) → refuse (not b) (replayed.Refused Block) (replayed.Until u) ≡ replayed.Until t → b ≡ true
+until_by : (b : Bool) (u t : ℕ) → refuse (not b) (Err Block) (Ok u) ≡ Ok t → b ≡ true
 unfolding refuse
 until_by true u t e = refl
 until_by false u t e = absurd (let z : ◌≡◌ {A = ℕ} 0 1 = cc in omega arith)
 
-pub until_accepted : (s : List ℕ) (t : ℕ) → replay_of s ≡ replayed.Until t → is_trace s ≡ true
+pub until_accepted : (s : List ℕ) (t : ℕ) → replay_of s ≡ Ok t → is_trace s ≡ true
 until_accepted s t e = until_by (is_trace s) _ t e
 
 -- what an accepted trace leaves
@@ -102,19 +100,19 @@ split_no_matter by ws r s a b e =
 
 -- ---- WHAT IS REFUSED CHANGES NOTHING
 module _ (by : Settings) (ws s : List ℕ) where
-  trace_by_lem : (x : Refusal) (b : Bool) (t : ℕ) (us : List ℕ) → refuse (not b) (replayed.Refused Block) (replayed.Until t) ≡ replayed.Refused x → pick b us ws ≡ ws
+  trace_by_lem : (x : Refusal) (b : Bool) (t : ℕ) (us : List ℕ) → refuse (not b) (Err Block) (Ok t) ≡ Err x → pick b us ws ≡ ws
   unfolding refuse
   trace_by_lem x true t us e = absurd (let z : ◌≡◌ {A = ℕ} 0 1 = cc in omega arith)
   trace_by_lem x false t us e = refl
 
-  pub refused_trace : (x : Refusal) → replay_of s ≡ replayed.Refused x → words_after_replay by ws s ≡ ws
+  pub refused_trace : (x : Refusal) → replay_of s ≡ Err x → words_after_replay by ws s ≡ ws
   refused_trace x e = trace_by_lem x (is_trace s) _ (replayed_from by ws s) e
 
   module _ (rs : List ℕ) where
-    block_by : (x : Refusal) (b : Bool) (us qs : List ℕ) → refuse (not b) (outcome.Refused Block) outcome.Done ≡ outcome.Refused x → (pick b us ws ≡ ws) × (pick b qs rs ≡ rs)
+    block_by : (x : Refusal) (b : Bool) (us qs : List ℕ) → refuse (not b) (Err Block) (Ok tt) ≡ Err x → (pick b us ws ≡ ws) × (pick b qs rs ≡ rs)
     unfolding refuse
     block_by x true us qs e = absurd (let z : ◌≡◌ {A = ℕ} 0 1 = cc in omega arith)
     block_by x false us qs e = (refl, refl)
 
-    pub refused_block : (x : Refusal) → block_check (reader_of rs) s ≡ outcome.Refused x → (words_after_block by (reader_of rs) ws s ≡ ws) × (reader_after_block rs s ≡ rs)
+    pub refused_block : (x : Refusal) → block_check (reader_of rs) s ≡ Err x → (words_after_block by (reader_of rs) ws s ≡ ws) × (reader_after_block rs s ≡ rs)
     refused_block x e = block_by x (accepts (reader_of rs) s) _ _ e

@@ -1,5 +1,6 @@
 -- Worked inputs, computed. They rule out a replay that refuses everything or nothing, one that loses a last block that is short, and a clearing that forgets an
 -- interval or keeps a time.
+use Rattle.std.specs.Prelude.{Ok, Err}
 use Prim.Native.Nat.{ℕ, ◌+◌, ◌-◌, ◌*◌}
 use mathlib.Core.Path.{◌≡◌, refl}
 use mathlib.Core.List.{List, [], ◌∷◌, ◌++◌, map}
@@ -23,7 +24,6 @@ use Rattle.block.specs.Making.{sealed, entries_octets, sizes_of, block_of}
 use Rattle.ports.specs.declared.intake.Settings.{Settings}
 use Rattle.ports.specs.Intake.{admitted_of, plan_at}
 use Rattle.ports.specs.History.{run}
-use Rattle.playback.specs.declared.Replayed.TheVariants.{Refused, Until}
 use Rattle.playback.specs.Playback.{calls_of, chunks, chunk_count, blocks_in, accepts_all, reader_after_all, entries_of_all, is_trace, cleared_word, replay_of}
 use Rattle.playback.specs.When.{replayed_code}
 
@@ -41,11 +41,11 @@ pub empty_trace : is_trace [] ≡ true
 unfolding chunks accepts_all
 empty_trace = refl
 
-pub empty_replayed : replay_of [] ≡ Until 0
+pub empty_replayed : replay_of [] ≡ Ok 0
 unfolding chunks accepts_all reader_after_all refuse
 empty_replayed = refl
 
-pub octet_refused : replay_of (0 ∷ []) ≡ Refused Block
+pub octet_refused : replay_of (0 ∷ []) ≡ Err Block
 unfolding chunks accepts_all verdict_of is_laid refuse
 octet_refused = refl
 
@@ -70,7 +70,7 @@ heard t port sequence = record { time = t; port = port; message = announce seque
 abbrev trace : List ℕ
 trace = block_of 4 (heard 50 2 9 ∷ []) ++ block_of 9 (heard 60 3 9 ∷ heard 61 2 9 ∷ heard 62 2 10 ∷ [])
 
-pub trace_replayed : replay_of trace ≡ Until 62
+pub trace_replayed : replay_of trace ≡ Ok 62
 unfolding chunks accepts_all reader_after_all refuse verdict_of is_laid is_checked sum_from laid_from all_zero is_in_order last_of entries_from be sealed entries_octets sizes_of
 trace_replayed = refl
 

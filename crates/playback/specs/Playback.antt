@@ -1,22 +1,19 @@
 -- Replaying a trace (02, (iv): "Replayed from fresh state, a trace gives the records, candidates and decisions that the live calls gave, however
 -- its blocks were split"; "in replay 20 BLOCK, check, layout (a short block too), number or time order wrong").
-use Rattle.std.specs.Prelude.{ℕ, zero, suc, ◌+◌, ◌/◌, ◌%◌, List, [], ◌∷◌, ◌++◌, map, Bool, true, false, not, ◌&&◌, eqb, get_or, length, take, drop}
+use Rattle.std.specs.Prelude.{ℕ, zero, suc, ◌+◌, ◌/◌, ◌%◌, List, [], ◌∷◌, ◌++◌, map, Bool, true, false, not, ◌&&◌, eqb, get_or, length, take, drop, Result, Ok, Err}
 use Rattle.refusal.specs.Choice.{pick, refuse}
 use Rattle.refusal.specs.declared.Refusal.TheVariants as refusal
-use Rattle.refusal.specs.declared.Outcome.{Outcome}
-use Rattle.refusal.specs.declared.Outcome.TheVariants.{Refused, Done}
 use Rattle.senders.specs.Port.{tab}
 use Rattle.slots.specs.Words.{port_words}
 use Rattle.block.specs.Layout.{block_octets, Entry, entries_of}
 use Rattle.judging.specs.Tests.{verdict_of, reader_after}
 use Rattle.judging.specs.declared.Reader.{Reader}
-use Rattle.judging.specs.declared.Verdict.{Verdict}
-use Rattle.judging.specs.declared.Verdict.TheVariants as verdict
+use Rattle.judging.specs.declared.Flaw.{Flaw}
+use Rattle.judging.specs.declared.Flaw.TheVariants as verdict
 use Rattle.ports.specs.declared.intake.Settings.{Settings}
 use Rattle.ports.specs.History.{Call, taking, run}
 use Rattle.ports.specs.Words.{all_words}
-use Rattle.playback.specs.declared.Replayed.{Replayed}
-use Rattle.playback.specs.declared.Replayed.TheVariants as replayed
+use Rattle.refusal.specs.declared.Refusal.{Refusal}
 
 -- a record as the call that takes its message
 abbrev pub call_of : Settings → Entry → Call
@@ -26,12 +23,12 @@ abbrev pub calls_of : Settings → List Entry → List Call
 calls_of by es = map (call_of by) es
 
 -- ---- A BLOCK
-abbrev pub is_sound : Verdict → Bool
-is_sound verdict.Check = false
-is_sound verdict.Layout = false
-is_sound verdict.Number = false
-is_sound verdict.Time = false
-is_sound (verdict.Sound r) = true
+abbrev pub is_sound : Result Reader Flaw → Bool
+is_sound (Err verdict.Check) = false
+is_sound (Err verdict.Layout) = false
+is_sound (Err verdict.Number) = false
+is_sound (Err verdict.Time) = false
+is_sound (Ok r) = true
 
 -- the reader's two words
 abbrev pub reader_of : List ℕ → Reader
@@ -44,8 +41,8 @@ reader_words r = r.next ∷ r.last ∷ []
 abbrev pub accepts : Reader → List ℕ → Bool
 accepts r s = is_sound (verdict_of r s)
 
-abbrev pub block_check : Reader → List ℕ → Outcome
-block_check r s = refuse (not (accepts r s)) (Refused refusal.Block) Done
+abbrev pub block_check : Reader → List ℕ → Result (Unit {0}) Refusal
+block_check r s = refuse (not (accepts r s)) (Err refusal.Block) (Ok tt)
 
 abbrev pub words_after_block : Settings → Reader → List ℕ → List ℕ → List ℕ
 words_after_block by r ws s = pick (accepts r s) (run ws (calls_of by (entries_of s))) ws
@@ -94,9 +91,9 @@ unfoldable pub cleared : List ℕ → List ℕ
 cleared ws = tab all_words (cleared_word ws)
 
 -- the last record's time, 0 for an empty trace; or 20
-abbrev pub replay_of : List ℕ → Replayed
+abbrev pub replay_of : List ℕ → Result ℕ Refusal
 replay_of s =
-    refuse (not (is_trace s)) (replayed.Refused refusal.Block) (replayed.Until (reader_after_all fresh_reader (blocks_in s)).last)
+    refuse (not (is_trace s)) (Err refusal.Block) (Ok (reader_after_all fresh_reader (blocks_in s)).last)
 
 -- the words after it: those of the clock that took the records of all blocks; "nothing has changed" where it is refused
 abbrev pub replayed_from : Settings → List ℕ → List ℕ → List ℕ

@@ -1,19 +1,18 @@
 -- When a block, and when a trace, is refused with 20 (02, (iv): "in replay 20 BLOCK, check, layout (a short block too), number or time order wrong"),
 -- 0 where it is replayed. In proofs/Exactly.antt the answer has its line here, and a line that holds is the answer.
-use Rattle.std.specs.Prelude.{ℕ, ◌≤◌, ◌<◌, ◌≡◌, List, [], ◌∷◌, true, false, length}
+use Rattle.std.specs.Prelude.{ℕ, ◌≤◌, ◌<◌, ◌≡◌, List, [], ◌∷◌, true, false, length, Result, Ok, Err}
 use Rattle.refusal.specs.Refusal.{answer_of}
 use Rattle.block.specs.Layout.{block_octets, number_of, entries_of}
 use Rattle.block.specs.Check.{is_checked}
 use Rattle.judging.specs.Tests.{is_laid, is_in_order, reader_after}
 use Rattle.judging.specs.declared.Reader.{Reader}
-use Rattle.playback.specs.declared.Replayed.{Replayed}
-use Rattle.playback.specs.declared.Replayed.TheVariants as replayed
 use Rattle.playback.specs.Playback.{fresh_reader, blocks_in}
+use Rattle.refusal.specs.declared.Refusal.{Refusal}
 
 -- this page's number of the answer
-abbrev pub replayed_code : Replayed → ℕ
-replayed_code (replayed.Refused x) = answer_of x
-replayed_code (replayed.Until t) = 0
+abbrev pub replayed_code : Result ℕ Refusal → ℕ
+replayed_code (Err x) = answer_of x
+replayed_code (Ok t) = 0
 
 -- a block behind those that its reader has read
 pub data BlockWhen (r : Reader) (s : List ℕ) : ℕ → Type 0 where

@@ -12,20 +12,13 @@ ghost use Rattle.ports.specs.History.{run};
 ghost use Rattle.ports.specs.Words.{all_words};
 ghost use Rattle.playback.specs.Playback.{calls_of, reader_of, block_check, words_after_block, reader_after_block, blocks_in, entries_of_all, is_trace, cleared, replay_of, words_after_replay};
 
-use judging::{Reader, Verdict};
+use judging::{Flaw, Reader};
 use ports::WORDS;
 use ports::intake::Settings;
-use refusal::{Outcome, Refusal};
+use refusal::Refusal;
 
 // What a reader keeps from block to block: the lowest number that the next may have, and the last record's time. Zeroed, nothing was read.
 pub const READER: usize = 2;
-
-// The time of the last record of a trace that was replayed, 0 where it has none.
-#[derive(Clone, Copy)]
-pub enum Replayed {
-    Refused(Refusal),
-    Until(u64),
-}
 
 // Takes the messages of a block whose layout is right.
 fn take_all(words: &mut [u64; WORDS], s: &[u8], set: Settings)
@@ -51,7 +44,7 @@ pub fn replay_block(
     reader: &mut [u64; READER],
     s: &[u8],
     set: Settings,
-) -> Outcome
+) -> Result<(), Refusal>
     ensures answer { result ≡ block_check (reader_of reader.old) s.now }
     ensures words { words.new ≡ words_after_block set (reader_of reader.old) words.old s.now }
     ensures reader { reader.new ≡ reader_after_block reader.old s.now }
@@ -61,12 +54,12 @@ pub fn replay_block(
         last: reader[1],
     };
     let v = judging::judge(s, read);
-    let Verdict::Sound(after) = v else {
-        return Outcome::Refused(Refusal::Block);
+    let Ok(after) = v else {
+        return Err(Refusal::Block);
     };
     take_all(words, s, set);
     *reader = [after.next, after.last];
-    Outcome::Done
+    Ok(())
 }
 
 // The block at an octet: 512 octets, or those that are left.
@@ -82,7 +75,7 @@ pub fn part(trace: &[u8], at: usize) -> &[u8]
 }
 
 // Looks at all blocks, and takes nothing.
-pub fn judged(trace: &[u8]) -> Replayed
+pub fn judged(trace: &[u8]) -> Result<u64, Refusal>
     ensures { result ≡ replay_of trace.now }
 {
     let mut read = Reader { next: 0, last: 0 };
@@ -90,13 +83,13 @@ pub fn judged(trace: &[u8]) -> Replayed
     while at < trace.len() {
         let s = part(trace, at);
         let v = judging::judge(s, read);
-        let Verdict::Sound(after) = v else {
-            return Replayed::Refused(Refusal::Block);
+        let Ok(after) = v else {
+            return Err(Refusal::Block);
         };
         read = after;
         at += s.len();
     }
-    Replayed::Until(read.last)
+    Ok(read.last)
 }
 
 // Forgets all records and times, port by port; the intervals stay, each the second word of its port.
@@ -137,16 +130,16 @@ fn take_trace(words: &mut [u64; WORDS], trace: &[u8], set: Settings)
 }
 
 // Replays a whole trace from fresh records, or refuses it.
-pub fn replay(words: &mut [u64; WORDS], trace: &[u8], set: Settings) -> Replayed
+pub fn replay(words: &mut [u64; WORDS], trace: &[u8], set: Settings) -> Result<u64, Refusal>
     ensures answer { result ≡ replay_of trace.now }
     ensures words { words.new ≡ words_after_replay set words.old trace.now }
 {
     match judged(trace) {
-        Replayed::Refused(x) => Replayed::Refused(x),
-        Replayed::Until(t) => {
+        Err(x) => Err(x),
+        Ok(t) => {
             clear(words);
             take_trace(words, trace, set);
-            Replayed::Until(t)
+            Ok(t)
         }
     }
 }

@@ -1,4 +1,5 @@
 -- After any calls from fresh words: what a port holds of a sender, and who its candidates are, by the Announces that it accepted.
+use Rattle.std.specs.Prelude.{Option, Some, None, Result, Ok, Err}
 use mathlib.Core.Path.{◌≡◌, refl, sym, ap, subst, ◌∙◌}
 use mathlib.Core.Bool.{Bool, true, false}
 use mathlib.Core.List.{List, [], ◌∷◌}
@@ -16,9 +17,6 @@ use Rattle.rank.specs.declared.PortIdentity.{PortIdentity}
 use Rattle.rank.specs.Ranked.{is_port}
 use Rattle.senders.specs.declared.Notice as kept
 use Rattle.senders.specs.declared.Record.{Record}
-use Rattle.senders.specs.declared.Plan.{Plan}
-use Rattle.senders.specs.declared.Plan.TheVariants.{Refuse, Put}
-use Rattle.senders.specs.declared.Asked.TheVariants as asked
 use Rattle.senders.specs.Record.{window_of, is_of}
 use Rattle.senders.specs.Port.{Port, empty_slot, slot_of, plan_of, outcome_of, port_after, candidate_in}
 use Rattle.senders.specs.History.{PortEvent, interval, made_by, Receipt, last_accepted, since, kept_of, candidate_by, stale_by, unbroken, Steady}
@@ -28,17 +26,13 @@ use Rattle.senders.proofs.Names.{is_of_lem}
 use Rattle.senders.proofs.History.{size_by_lem, last_is, record_is, candidate_only}
 use Rattle.senders.proofs.Steady.{HasRecord, holds, since_is, candidate_when, stale_when, stale_only}
 use Rattle.slots.specs.Words.{record_of, slot_at, port_of, words_after, block, seen_in}
-use Rattle.slots.specs.declared.Seen.TheVariants.{Empty, Held}
 use Rattle.slots.proofs.Laws.{length_tab, tab_ext}
 use Rattle.slots.proofs.Meaning.{Fitting, port_eq, exponent_means}
 use Rattle.ports.specs.declared.intake.Settings.{Settings}
-use Rattle.ports.specs.declared.intake.Admitted.{Admitted}
-use Rattle.ports.specs.declared.intake.Admitted.TheVariants.{Refused, Notice}
 use Rattle.ports.specs.Words.{own, port_at}
 use Rattle.ports.specs.Intake.{admitted_of, plan_by}
 use Rattle.ports.specs.Interval.{is_interval, exponent_of}
 use Rattle.ports.specs.Asking.{candidate_on, looked_at}
-use Rattle.ports.specs.declared.asking.Looked.TheVariants as looked
 use Rattle.ports.specs.History.{Call, taking, setting, asking, port_of_call, after, run, own_after, fresh, OctetCall, OctetCalls}
 use Rattle.ports.specs.When.{take_number}
 use Rattle.ports.specs.Accepted.{announced_by, added_by, history_from, history_on, accepted_on, Unset, SteadyOn, IsCandidate}
@@ -46,6 +40,8 @@ use Rattle.ports.proofs.Laws.{asked_found}
 use Rattle.ports.proofs.Follows.{own_length, after_all, frame, own_after_lem}
 use Rattle.ports.proofs.Fits.{notice_fits}
 use Rattle.ports.proofs.Promises.{Zeros, zeros_tab, zeros_block, by_means, planned}
+use Rattle.senders.specs.declared.Notice.{Notice}
+use Rattle.refusal.specs.declared.Refusal.{Refusal}
 
 -- ---- a fresh port
 blank : (l : List ℕ) → Zeros l → record_of l ≡ empty_slot
@@ -61,11 +57,11 @@ fresh_is q =
 
 -- ---- a call, and calls
 module _ (l : List ℕ) (n : length l ≡ 98) (hs : List PortEvent) (is : port_of l ≡ made_by hs) where
-  announced_is : (t : ℕ) (x : Admitted) → ((a : kept.Notice) → x ≡ Notice a → Fitting a)
+  announced_is : (t : ℕ) (x : Result Notice Refusal) → ((a : kept.Notice) → x ≡ Ok a → Fitting a)
       → port_of (words_after l t (plan_by (port_of l) t x)) ≡ made_by (announced_by t x hs)
   unfolding made_by
-  announced_is t (Refused x) fits = is
-  announced_is t (Notice a) fits = by_means l t n (Notice a) fits ∙ ap (λ (p : Port). port_after p t (plan_of p t a)) is
+  announced_is t (Err x) fits = is
+  announced_is t (Ok a) fits = by_means l t n (Ok a) fits ∙ ap (λ (p : Port). port_after p t (plan_of p t a)) is
 
   interval_is : (e : ℕ) (b : Bool) → port_of (pick b (set l 1 e) l) ≡ made_by (pick b (interval e ∷ hs) hs)
   unfolding made_by
@@ -106,7 +102,7 @@ module _ (q : ℕ) (iq : is_port q ≡ true) where
         subst (λ (p : Port). is_of x (slot_of p i) ≡ true → slot_of p i ≡ kept_of (since x (history_on q cs))) (sym port_by_history) (record_is (history_on q cs) x i h)
 
     -- so it is shown
-    shown_by : (r s : Record) (i : ℕ) → i < 16 → slot_of (port_at (run fresh cs) q) i ≡ s → (b : Bool) → eqb s.receipts 0 ≡ b → pick b Empty (Held s) ≡ Held r
+    shown_by : (r s : Record) (i : ℕ) → i < 16 → slot_of (port_at (run fresh cs) q) i ≡ s → (b : Bool) → eqb s.receipts 0 ≡ b → pick b None (Some s) ≡ Some r
         → r ≡ kept_of (since r.notice.sender (history_on q cs))
     shown_by r s i h e true n f = absurd (let z : ◌≡◌ {A = ℕ} 0 1 = cc in omega arith)
     shown_by r s i h e false n f =
@@ -115,25 +111,25 @@ module _ (q : ℕ) (iq : is_port q ≡ true) where
         let its : is_of x (slot_of (port_at (run fresh cs) q) i) ≡ true = ap (is_of x) e ∙ is_of_lem x s refl n in
         subst (λ (z : Record). z ≡ kept_of (since z.notice.sender (history_on q cs))) same (sym e ∙ record_by_history x i h its)
 
-    pub shown_by_history : (i : ℕ) → i < 16 → (r : Record) → looked_at (run fresh cs) q i ≡ looked.Slot (Held r) → r ≡ kept_of (since r.notice.sender (history_on q cs))
+    pub shown_by_history : (i : ℕ) → i < 16 → (r : Record) → looked_at (run fresh cs) q i ≡ Ok (Some r) → r ≡ kept_of (since r.notice.sender (history_on q cs))
     unfolding refuse seen_in
     shown_by_history i h r e =
         let s = slot_of (port_at (run fresh cs) q) i in
-        let f : looked.Slot (pick (eqb s.receipts 0) Empty (Held s)) ≡ looked.Slot (Held r) = rw iq at e in
+        let f : ◌≡◌ {A = Result (Option Record) Refusal} (Ok (pick (eqb s.receipts 0) None (Some s))) (Ok (Some r)) = rw iq at e in
         shown_by r s i h refl (eqb s.receipts 0) refl (cc)
 
     -- ---- candidates
     -- A CANDIDATE'S TWO LATEST ACCEPTED ANNOUNCES LIE WITH THE OLDER WITHIN W OF T, and it has the data of the last
-    pub candidates_only : (i t : ℕ) → i < 16 → (c : Candidate) → candidate_on (run fresh cs) q i t ≡ asked.Found c
-        → candidate_by q (window_of (port_at (run fresh cs) q).e) t (accepted_on q cs c.sender) ≡ asked.Found c
+    pub candidates_only : (i t : ℕ) → i < 16 → (c : Candidate) → candidate_on (run fresh cs) q i t ≡ Ok (Some c)
+        → candidate_by q (window_of (port_at (run fresh cs) q).e) t (accepted_on q cs c.sender) ≡ Ok (Some c)
     candidates_only i t h c e =
         let p = port_at (run fresh cs) q in
         let g = (asked_found (run fresh cs) q t (candidate_in q p i t) c e).1 in
-        subst (λ (r : Port). candidate_in q r i t ≡ asked.Found c → candidate_by q (window_of r.e) t (accepted_on q cs c.sender) ≡ asked.Found c) (sym port_by_history)
+        subst (λ (r : Port). candidate_in q r i t ≡ Ok (Some c) → candidate_by q (window_of r.e) t (accepted_on q cs c.sender) ≡ Ok (Some c)) (sym port_by_history)
         (candidate_only (history_on q cs) q i t h c) g
 
 -- ---- where the interval is not changed
-abbrev numbered : Plan → ℕ
+abbrev numbered : Result (ℕ × Record) Refusal → ℕ
 numbered q = code_of (outcome_of q)
 
 module _ (q : ℕ) (iq : is_port q ≡ true) (cs : List Call) (o : OctetCalls cs) (w : ℕ) (steady : SteadyOn q cs w) where
@@ -150,7 +146,7 @@ module _ (q : ℕ) (iq : is_port q ≡ true) (cs : List Call) (o : OctetCalls cs
 
   -- WHOSE TWO LATEST ACCEPTED ANNOUNCES LIE WITH THE OLDER WITHIN W OF T IS A CANDIDATE, at every time T that is not refused
   pub candidates_when : (t : ℕ) → (port_at (run fresh cs) q).last ≤ t
-      → (x : PortIdentity) (c : Candidate) → candidate_by q w t (accepted_on q cs x) ≡ asked.Found c → IsCandidate (run fresh cs) q t c
+      → (x : PortIdentity) (c : Candidate) → candidate_by q w t (accepted_on q cs x) ≡ Ok (Some c) → IsCandidate (run fresh cs) q t c
   unfolding refuse
   candidates_when t later x c e =
       let same = port_by_history q iq cs o in
@@ -159,13 +155,13 @@ module _ (q : ℕ) (iq : is_port q ≡ true) (cs : List Call) (o : OctetCalls cs
       record {
         slot = there.at;
         inside = there.inside;
-        is = rw (iq, le-ltb _ _ later) (subst (λ (p : Port). candidate_in q p there.at t ≡ asked.Found c) (sym same) there.is);
+        is = rw (iq, le-ltb _ _ later) (subst (λ (p : Port). candidate_in q p there.at t ≡ Ok (Some c)) (sym same) there.is);
       }
 
   -- so A PORT'S CANDIDATES AT T ARE EXACTLY THOSE
   pub candidates_exactly : (t : ℕ) → (port_at (run fresh cs) q).last ≤ t → (c : Candidate)
-      → (IsCandidate (run fresh cs) q t c → candidate_by q w t (accepted_on q cs c.sender) ≡ asked.Found c)
-      × (candidate_by q w t (accepted_on q cs c.sender) ≡ asked.Found c → IsCandidate (run fresh cs) q t c)
+      → (IsCandidate (run fresh cs) q t c → candidate_by q w t (accepted_on q cs c.sender) ≡ Ok (Some c))
+      × (candidate_by q w t (accepted_on q cs c.sender) ≡ Ok (Some c) → IsCandidate (run fresh cs) q t c)
   candidates_exactly t later c =
       let window : window_of (port_at (run fresh cs) q).e ≡ w = ap (λ (p : Port). window_of p.e) (port_by_history q iq cs o) ∙ steady.stands in (
         λ is. rw window at (candidates_only q iq cs o is.slot t is.inside c is.is),
@@ -173,7 +169,7 @@ module _ (q : ℕ) (iq : is_port q ≡ true) (cs : List Call) (o : OctetCalls cs
       )
 
   -- 12 EXACTLY WHEN THE SENDER'S LATEST ACCEPTED ANNOUNCE LIES WITHIN W OF T AND THE SEQUENCEID IS NOT NEWER THAN ITS
-  module _ (set : Settings) (t : ℕ) (s : List ℕ) (a : kept.Notice) (admitted : admitted_of set q s ≡ Notice a) where
+  module _ (set : Settings) (t : ℕ) (s : List ℕ) (a : kept.Notice) (admitted : admitted_of set q s ≡ Ok a) where
     pub twelve_by_history : (port_at (run fresh cs) q).last ≤ t → stale_by w t a (accepted_on q cs a.sender) ≡ true → take_number set (run fresh cs) q t s ≡ 12
     twelve_by_history later e =
         let same = port_by_history q iq cs o in
@@ -187,25 +183,25 @@ module _ (q : ℕ) (iq : is_port q ≡ true) (cs : List Call) (o : OctetCalls cs
         let hs = history_on q cs in
         let p = made_by hs in
         let plan = planned set (run fresh cs) q t s a admitted ∙ ap (λ (r : Port). plan_of r t a) (port_by_history q iq cs o) in
-        let stale : plan_of p t a ≡ Refuse Stale =
+        let stale : plan_of p t a ≡ Err Stale =
         plan_numbered p t a (size_by_lem hs) Stale (omega arith) (λ z. absurd (omega arith)) (λ z. refl) (λ z. absurd (omega arith)) (sym (ap numbered plan) ∙ e) in
         stale_only hs w t a steady.came steady.stands (intake.stale_only p t a (size_by_lem hs) stale).later stale
 
 -- ---- the interval is not changed: never set, or set first
-e_kept : (p : Port) (t : ℕ) (q : Plan) → (port_after p t q).e ≡ p.e
-e_kept p t (Refuse x) = refl
-e_kept p t (Put i r) = refl
+e_kept : (p : Port) (t : ℕ) (q : Result (ℕ × Record) Refusal) → (port_after p t q).e ≡ p.e
+e_kept p t (Err x) = refl
+e_kept p t (Ok (i, r)) = refl
 
 module _ (q w : ℕ) where
   abbrev Stands : List PortEvent → Type 0
   Stands hs = Steady w hs × (window_of (made_by hs).e ≡ w)
 
-  announced_steady : (t : ℕ) (x : Admitted) (hs : List PortEvent) → Stands hs → Stands (announced_by t x hs)
+  announced_steady : (t : ℕ) (x : Result Notice Refusal) (hs : List PortEvent) → Stands hs → Stands (announced_by t x hs)
   unfolding Steady made_by
-  announced_steady t (Refused x) hs s = s
-  announced_steady t (Notice a) hs s = ((s.1, s.0), ap window_of (e_kept (made_by hs) t (plan_of (made_by hs) t a)) ∙ s.1)
+  announced_steady t (Err x) hs s = s
+  announced_steady t (Ok a) hs s = ((s.1, s.0), ap window_of (e_kept (made_by hs) t (plan_of (made_by hs) t a)) ∙ s.1)
 
-  taken_steady : (t : ℕ) (x : Admitted) (hs : List PortEvent) (b : Bool) → Stands hs → Stands (pick b (announced_by t x hs) hs)
+  taken_steady : (t : ℕ) (x : Result Notice Refusal) (hs : List PortEvent) (b : Bool) → Stands hs → Stands (pick b (announced_by t x hs) hs)
   taken_steady t x hs true s = announced_steady t x hs s
   taken_steady t x hs false s = s
 

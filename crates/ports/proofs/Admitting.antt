@@ -1,4 +1,5 @@
 -- An Announce is refused with 1 to 10 exactly when 01 says: 8, the reading checks, 3 if it isn't an Announce, 9, 10.
+use Rattle.std.specs.Prelude.{Result, Ok, Err}
 use Prim.Native.Nat.{ℕ, ◌<◌, ◌≤◌}
 use mathlib.Core.Path.{◌≡◌, refl, sym, ap, subst, ◌∙◌}
 use mathlib.Core.List.{List}
@@ -11,15 +12,11 @@ use Rattle.refusal.specs.Choice.{refuse}
 use Rattle.refusal.specs.Refusal.{answer_of, code_of}
 use Rattle.refusal.proofs.Numbers.{answered}
 use Rattle.refusal.specs.declared.Refusal.TheVariants.{«Type»}
-use Rattle.refusal.specs.declared.Outcome.{Outcome}
-use Rattle.refusal.specs.declared.Outcome.TheVariants as outcome
 use Rattle.message.specs.Fields.{type_of, header_of}
 use Rattle.message.specs.Reading.{check_of, by}
 use Rattle.message.specs.When.{TakesWhen}
 use Rattle.message.specs.Announced.{announced_of}
 use Rattle.message.specs.Answers.{announced_code}
-use Rattle.message.specs.declared.announce.Announced.{Announced}
-use Rattle.message.specs.declared.announce.Announced.TheVariants as announced
 use Rattle.message.specs.declared.announce.Heard.{Heard}
 use Rattle.message.proofs.Exactly.{announced_told, when_announced}
 use Rattle.rank.specs.Ranked.{is_port}
@@ -29,27 +26,27 @@ use Rattle.senders.proofs.Intake.{plan_cases}
 use Rattle.slots.specs.Words.{slot_at}
 use Rattle.slots.proofs.Laws.{length_tab}
 use Rattle.ports.specs.declared.intake.Settings.{Settings}
-use Rattle.ports.specs.declared.intake.Admitted.{Admitted}
-use Rattle.ports.specs.declared.intake.Admitted.TheVariants.{Refused, Notice}
 use Rattle.ports.specs.Words.{own, port_at}
 use Rattle.ports.specs.Intake.{judged_of, admitted_by, admitted_of, plan_by, plan_at}
 use Rattle.ports.specs.Admitting.{admitted_code, IsAnnounce, AdmittedWhen, no_port, unread, other_domain, own_clock, admitted}
+use Rattle.senders.specs.declared.Notice.{Notice}
+use Rattle.refusal.specs.declared.Refusal.{Refusal}
 
 -- an Announce that was read has the header of its octets
-whole_header : (o : Outcome) (b : Bool) (g h : Heard) → by o announced.Refused (refuse b (announced.Refused «Type») (announced.Whole g)) ≡ announced.Whole h → g ≡ h
+whole_header : (o : Result (Unit {0}) Refusal) (b : Bool) (g h : Heard) → by o Err (refuse b (Err «Type») (Ok g)) ≡ Ok h → g ≡ h
 unfolding refuse
-whole_header outcome.Done false g h e = cc
-whole_header outcome.Done true g h e = absurd (let z : ◌≡◌ {A = ℕ} 0 1 = cc in omega arith)
-whole_header (outcome.Refused x) b g h e = absurd (let z : ◌≡◌ {A = ℕ} 0 1 = cc in omega arith)
+whole_header (Ok tt) false g h e = cc
+whole_header (Ok tt) true g h e = absurd (let z : ◌≡◌ {A = ℕ} 0 1 = cc in omega arith)
+whole_header (Err x) b g h e = absurd (let z : ◌≡◌ {A = ℕ} 0 1 = cc in omega arith)
 
 module _ (set : Settings) (s : List ℕ) where
-  header_is : {h : Heard} → announced_of set.magic s ≡ announced.Whole h → h.header ≡ header_of s
+  header_is : {h : Heard} → announced_of set.magic s ≡ Ok h → h.header ≡ header_of s
   unfolding announced_of
   header_is {h} e =
       ap (λ (g : Heard). g.header) (sym (whole_header (check_of set.magic s) (not (eqb (type_of s) 0xB)) _ h e))
 
-  read_as : (x : Announced) → announced_of set.magic s ≡ x → TakesWhen set.magic 0xB s (announced_code x)
-  read_as x e = subst (λ (y : Announced). TakesWhen set.magic 0xB s (announced_code y)) e (announced_told set.magic s)
+  read_as : (x : Result Heard Refusal) → announced_of set.magic s ≡ x → TakesWhen set.magic 0xB s (announced_code x)
+  read_as x e = subst (λ (y : Result Heard Refusal). TakesWhen set.magic 0xB s (announced_code y)) e (announced_told set.magic s)
 
 module _ (set : Settings) (port : ℕ) (s : List ℕ) where
   -- ---- a line that holds
@@ -61,15 +58,15 @@ module _ (set : Settings) (port : ℕ) (s : List ℕ) where
   unfolding admitted_of refuse
   on_port_lem e = rw e
 
-  refused_by : (x : Announced) {n : ℕ} → announced_code x ≡ n → 0 < n → admitted_code (admitted_by set x) ≡ n
-  refused_by (announced.Refused x) e h = e
-  refused_by (announced.Whole g) e h = absurd (omega arith)
+  refused_by : (x : Result Heard Refusal) {n : ℕ} → announced_code x ≡ n → 0 < n → admitted_code (admitted_by set x) ≡ n
+  refused_by (Err x) e h = e
+  refused_by (Ok g) e h = absurd (omega arith)
 
   -- an Announce that is read is judged by its header
-  judged : (x : Announced) → announced_of set.magic s ≡ x → announced_code x ≡ 0
+  judged : (x : Result Heard Refusal) → announced_of set.magic s ≡ x → announced_code x ≡ 0
       → (h : Heard) × ((admitted_by set x ≡ judged_of set h) × (h.header ≡ header_of s))
-  judged (announced.Refused x) e z = absurd (omega (arith, answered x, z))
-  judged (announced.Whole h) e z = (h, (refl, header_is set s e))
+  judged (Err x) e z = absurd (omega (arith, answered x, z))
+  judged (Ok h) e z = (h, (refl, header_is set s e))
 
   of_announce : IsAnnounce set port s → (h : Heard) × ((admitted_of set port s ≡ judged_of set h) × (h.header ≡ header_of s))
   of_announce p =
@@ -93,17 +90,17 @@ module _ (set : Settings) (port : ℕ) (s : List ℕ) where
       rw (j.1.0, j.1.1, eq-eqb _ _ d, ne_eqb _ _ c)
 
   -- which line it is
-  line : (i : Bool) → is_port port ≡ i → (x : Announced) → announced_of set.magic s ≡ x
+  line : (i : Bool) → is_port port ≡ i → (x : Result Heard Refusal) → announced_of set.magic s ≡ x
       → (d : Bool) → eqb (header_of s).domain set.domain ≡ d → (c : Bool) → eqb (header_of s).source.clock set.clock ≡ c
       → (n : ℕ) × AdmittedWhen set port s n
   line false i x e d ed c ec = (8, no_port i)
-  line true i (announced.Refused x) e d ed c ec = (answer_of x, unread i (read_as set s (announced.Refused x) e) (answered x))
-  line true i (announced.Whole h) e false ed c ec =
-      (9, other_domain (i, read_as set s (announced.Whole h) e) (eqb-false _ _ ed))
-  line true i (announced.Whole h) e true ed true ec =
-      (10, own_clock (i, read_as set s (announced.Whole h) e) (eqb-true _ _ ed) (eqb-true _ _ ec))
-  line true i (announced.Whole h) e true ed false ec =
-      (0, admitted (i, read_as set s (announced.Whole h) e) (eqb-true _ _ ed) (eqb-false _ _ ec))
+  line true i (Err x) e d ed c ec = (answer_of x, unread i (read_as set s (Err x) e) (answered x))
+  line true i (Ok h) e false ed c ec =
+      (9, other_domain (i, read_as set s (Ok h) e) (eqb-false _ _ ed))
+  line true i (Ok h) e true ed true ec =
+      (10, own_clock (i, read_as set s (Ok h) e) (eqb-true _ _ ed) (eqb-true _ _ ec))
+  line true i (Ok h) e true ed false ec =
+      (0, admitted (i, read_as set s (Ok h) e) (eqb-true _ _ ed) (eqb-false _ _ ec))
 
   -- THE NUMBER GIVEN: its line holds
   pub admitted_told : AdmittedWhen set port s (admitted_code (admitted_of set port s))
@@ -125,13 +122,13 @@ module _ (ws : List ℕ) (port t : ℕ) where
         full = λ l n v. inr (omega arith);
       })
 
-  first_refuses : (x : Admitted) {n : ℕ} → admitted_code x ≡ n → 0 < n → code_of (outcome_of (plan_by (port_at ws port) t x)) ≡ n
-  first_refuses (Refused x) e h = e
-  first_refuses (Notice a) e h = absurd (omega arith)
+  first_refuses : (x : Result Notice Refusal) {n : ℕ} → admitted_code x ≡ n → 0 < n → code_of (outcome_of (plan_by (port_at ws port) t x)) ≡ n
+  first_refuses (Err x) e h = e
+  first_refuses (Ok a) e h = absurd (omega arith)
 
-  only_first : (x : Admitted) {n : ℕ} → code_of (outcome_of (plan_by (port_at ws port) t x)) ≡ n → 0 < n → n ≤ 10 → admitted_code x ≡ n
-  only_first (Refused x) e h l = e
-  only_first (Notice a) e h l =
+  only_first : (x : Result Notice Refusal) {n : ℕ} → code_of (outcome_of (plan_by (port_at ws port) t x)) ≡ n → 0 < n → n ≤ 10 → admitted_code x ≡ n
+  only_first (Err x) e h l = e
+  only_first (Ok a) e h l =
       absurd (⊎_elim
       (λ (z : code_of (outcome_of (plan_of (port_at ws port) t a)) ≡ 0). omega (arith, e, z))
       (λ (g : 11 ≤ code_of (outcome_of (plan_of (port_at ws port) t a))). omega (arith, e, g))

@@ -1,4 +1,5 @@
 -- Taking an Announce is answered with 0, 11, 12 and 13 exactly when the table says, for any words.
+use Rattle.std.specs.Prelude.{Result, Ok, Err}
 use mathlib.Core.Path.{◌≡◌, refl, ap, subst, ◌∙◌}
 use mathlib.Core.List.{List}
 use Prim.Native.Nat.{ℕ, ◌%◌, ◌≤◌}
@@ -9,7 +10,6 @@ use Rattle.refusal.proofs.Numbers.{counted, number_back}
 use Rattle.refusal.specs.declared.Refusal.TheVariants.{Backward, Stale, Full}
 use Rattle.message.specs.When.{When, few, version, unlisted, below, beyond, stamp, tlv, wrbad, sound, TakesWhen, other as takes-other, unread as takes-unread, taken as takes-taken}
 use Rattle.senders.specs.declared.Notice as kept
-use Rattle.senders.specs.declared.Plan.{Plan}
 use Rattle.senders.specs.Port as senders
 use Rattle.senders.specs.When.{WhenBackward, WhenStale, WhenFull, WhenTaken}
 use Rattle.senders.proofs.Intake as intake
@@ -17,8 +17,6 @@ use Rattle.senders.proofs.Exactly as exactly
 use Rattle.slots.specs.Words.{slot_at}
 use Rattle.slots.proofs.Laws.{length_tab}
 use Rattle.ports.specs.declared.intake.Settings.{Settings}
-use Rattle.ports.specs.declared.intake.Admitted as admission
-use Rattle.ports.specs.declared.intake.Admitted.TheVariants.{Refused, Notice}
 use Rattle.ports.specs.Words.{own, port_at}
 use Rattle.ports.specs.Intake.{admitted_of, plan_by, plan_at}
 use Rattle.ports.specs.History.{Call, run, fresh, OctetCalls}
@@ -27,6 +25,9 @@ use Rattle.ports.specs.Admitting.{admitted_code, AdmittedWhen, no_port, unread, 
 use Rattle.ports.proofs.Admitting.{admitted_told}
 use Rattle.ports.proofs.Laws.{admitted_port}
 use Rattle.ports.proofs.Promises.{one_record}
+use Rattle.senders.specs.declared.Notice.{Notice}
+use Rattle.senders.specs.declared.Record.{Record}
+use Rattle.refusal.specs.declared.Refusal.{Refusal}
 
 -- ---- before the records are looked at, the numbers are 1 to 10; those of 6 and 7 have places above them
 read_low : {magic : ℕ} {s : List ℕ} {n : ℕ} → When magic s n → n % 256 ≤ 10
@@ -52,19 +53,19 @@ line_low (other_domain a d) = omega arith
 line_low (own_clock a d c) = omega arith
 line_low (admitted a d c) = omega arith
 
-abbrev Low : admission.Admitted → Type 0
-Low (Refused x) = (1 ≤ answer_of x % 256) × (answer_of x % 256 ≤ 10)
-Low (Notice a) = Unit {0}
+abbrev Low : Result Notice Refusal → Type 0
+Low (Err x) = (1 ≤ answer_of x % 256) × (answer_of x % 256 ≤ 10)
+Low (Ok a) = Unit {0}
 
-low_by : (q : admission.Admitted) → admitted_code q % 256 ≤ 10 → Low q
-low_by (Refused x) l = (rw (number_back x) (counted x).0, l)
-low_by (Notice a) l = tt
+low_by : (q : Result Notice Refusal) → admitted_code q % 256 ≤ 10 → Low q
+low_by (Err x) l = (rw (number_back x) (counted x).0, l)
+low_by (Ok a) l = tt
 
 admitted_low : (set : Settings) (port : ℕ) (s : List ℕ) → Low (admitted_of set port s)
 admitted_low set port s = low_by (admitted_of set port s) (line_low (admitted_told set port s))
 
 -- ---- from the port's records to the call
-abbrev plan_number : Plan → ℕ
+abbrev plan_number : Result (ℕ × Record) Refusal → ℕ
 plan_number q = code_of (senders.outcome_of q)
 
 module _ (set : Settings) (ws : List ℕ) (port t : ℕ) (s : List ℕ) where
@@ -75,12 +76,12 @@ module _ (set : Settings) (ws : List ℕ) (port t : ℕ) (s : List ℕ) where
   size = length_tab 16 (slot_at (own ws port))
 
   module _ (W : senders.Port → ℕ → kept.Notice → Type 0) (n : ℕ) where
-    only_by : (q : admission.Admitted) → admitted_of set port s ≡ q → ((m : ℕ) → 1 ≤ m % 256 → m % 256 ≤ 10 → m ≡ n → ⊥)
+    only_by : (q : Result Notice Refusal) → admitted_of set port s ≡ q → ((m : ℕ) → 1 ≤ m % 256 → m % 256 ≤ 10 → m ≡ n → ⊥)
         → ((a : kept.Notice) → plan_number (senders.plan_of p t a) ≡ n → W p t a) → plan_number (plan_by p t q) ≡ n → Given W set ws port t s
-    only_by (Refused y) e other w f =
-        let low : Low (Refused y) = subst Low e (admitted_low set port s) in
+    only_by (Err y) e other w f =
+        let low : Low (Err y) = subst Low e (admitted_low set port s) in
         absurd (other (answer_of y) low.0 low.1 f)
-    only_by (Notice a) e other w f = record { notice = a; admitted = e; when = w a f }
+    only_by (Ok a) e other w f = record { notice = a; admitted = e; when = w a f }
 
     -- a number that admission does not give
     number_only : ((m : ℕ) → 1 ≤ m % 256 → m % 256 ≤ 10 → m ≡ n → ⊥) → ((a : kept.Notice) → plan_number (senders.plan_of p t a) ≡ n → W p t a)
@@ -90,7 +91,7 @@ module _ (set : Settings) (ws : List ℕ) (port t : ℕ) (s : List ℕ) where
 
     number_when : ((a : kept.Notice) → W p t a → plan_number (senders.plan_of p t a) ≡ n) → Given W set ws port t s → take_number set ws port t s ≡ n
     unfolding plan_at
-    number_when w h = ap (λ (q : admission.Admitted). plan_number (plan_by p t q)) h.admitted ∙ w h.notice h.when
+    number_when w h = ap (λ (q : Result Notice Refusal). plan_number (plan_by p t q)) h.admitted ∙ w h.notice h.when
 
   -- 11 EXACTLY WHEN THE TIME LIES BELOW THE PORT'S LAST ACCEPTED TIME
   pub eleven : Given WhenBackward set ws port t s → take_number set ws port t s ≡ 11
@@ -133,9 +134,9 @@ module _ (set : Settings) (ws : List ℕ) (port t : ℕ) (s : List ℕ) where
   pub taken_only : take_number set ws port t s ≡ 0 → Given WhenTaken set ws port t s
   taken_only = number_only WhenTaken 0 (λ m l h e. omega arith) (λ a. exactly.taken_only p t a size)
 
-  few_by : (q : admission.Admitted) → Low q → plan_number (plan_by p t q) % 256 ≤ 13
-  few_by (Refused x) low = omega (arith, low.1)
-  few_by (Notice a) low = let h = exactly.plan_at_most p t a size in omega (arith, h)
+  few_by : (q : Result Notice Refusal) → Low q → plan_number (plan_by p t q) % 256 ≤ 13
+  few_by (Err x) low = omega (arith, low.1)
+  few_by (Ok a) low = let h = exactly.plan_at_most p t a size in omega (arith, h)
 
   -- no other number is given, in the low eight bits
   pub thirteen_at_most : take_number set ws port t s % 256 ≤ 13

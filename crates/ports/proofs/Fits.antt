@@ -1,4 +1,5 @@
 -- What is kept of an Announce fits its words: octets make numbers of their widths.
+use Rattle.std.specs.Prelude.{Some, None, Result, Ok, Err}
 use mathlib.Core.Path.{◌≡◌, refl, subst}
 use mathlib.Core.Bool.{Bool, true, false, not}
 use mathlib.Core.List.{List}
@@ -10,28 +11,23 @@ use Rattle.octets.proofs.Laws.{Octets, be_bound}
 use Rattle.refusal.specs.Choice.{pick, refuse}
 use Rattle.refusal.specs.declared.Refusal.{Refusal}
 use Rattle.refusal.specs.declared.Refusal.TheVariants.{«Type», Port, Domain, Own}
-use Rattle.refusal.specs.declared.Outcome.{Outcome}
-use Rattle.refusal.specs.declared.Outcome.TheVariants as outcome
 use Rattle.refusal.proofs.Choice.{passed}
 use Rattle.rank.specs.Ranked.{is_port}
 use Rattle.tlv.specs.Walk.{first}
 use Rattle.tlv.specs.Form.{suffix_at}
 use Rattle.tlv.specs.Wr.{flags_at, suffix_in, wr_flags_of}
-use Rattle.tlv.specs.declared.wr.Suffix.TheVariants.{Flags, Absent}
 use Rattle.message.specs.Fields.{type_of, header_of, announce_of, identity_at, tail_of}
 use Rattle.message.specs.Reading.{check_of, by}
 use Rattle.message.specs.Announced.{announced_of}
-use Rattle.message.specs.declared.announce.Announced.{Announced}
-use Rattle.message.specs.declared.announce.Announced.TheVariants as announced
 use Rattle.message.specs.declared.announce.Heard.{Heard}
 use Rattle.senders.specs.declared.Notice as kept
 use Rattle.slots.proofs.Meaning.{Fitting}
 use Rattle.ports.specs.declared.intake.Settings.{Settings}
-use Rattle.ports.specs.declared.intake.Admitted.TheVariants.{Refused, Notice}
 use Rattle.ports.specs.Intake.{notice_of, judged_of, admitted_by, admitted_of}
 use Rattle.ports.proofs.Laws.{unlike}
+use Rattle.senders.specs.declared.Notice.{Notice}
 
-flags_by : (t : List ℕ) (p : ℕ) (b : Bool) → wr_flags_of (pick b (Flags (flags_at t p)) Absent) < 0x10000
+flags_by : (t : List ℕ) (p : ℕ) (b : Bool) → wr_flags_of (pick b (Some (flags_at t p)) None) < 0x10000
 flags_by t p true = omega arith
 flags_by t p false = omega arith
 
@@ -59,41 +55,41 @@ octets_fit magic s o =
       steps = be_bound 2 s 61 o;
     }
 
-pub no_whole : {x : Refusal} {h : Heard} → announced.Refused x ≡ announced.Whole h → ⊥
+pub no_whole : {x : Refusal} {h : Heard} → ◌≡◌ {A = Result Heard Refusal} (Err x) (Ok h) → ⊥
 no_whole {x} {h} e = let z : ◌≡◌ {A = ℕ} 0 1 = cc in omega arith
 
-heard_by : (magic : ℕ) (s : List ℕ) (h : Heard) (c : Outcome)
-    → by c announced.Refused (refuse (not (eqb (type_of s) 0xB)) (announced.Refused «Type») (announced.Whole (heard_of magic s))) ≡ announced.Whole h
+heard_by : (magic : ℕ) (s : List ℕ) (h : Heard) (c : Result (Unit {0}) Refusal)
+    → by c Err (refuse (not (eqb (type_of s) 0xB)) (Err «Type») (Ok (heard_of magic s))) ≡ Ok h
     → heard_of magic s ≡ h
-heard_by magic s h (outcome.Refused x) e = absurd (no_whole e)
-heard_by magic s h outcome.Done e =
-    let w : announced.Whole (heard_of magic s) ≡ announced.Whole h =
-    (passed (announced.Refused «Type») (announced.Whole (heard_of magic s)) (announced.Whole h) (not (eqb (type_of s) 0xB)) no_whole e).1 in
+heard_by magic s h (Err x) e = absurd (no_whole e)
+heard_by magic s h (Ok tt) e =
+    let w : ◌≡◌ {A = Result Heard Refusal} (Ok (heard_of magic s)) (Ok h) =
+    (passed (Err «Type») (Ok (heard_of magic s)) (Ok h) (not (eqb (type_of s) 0xB)) no_whole e).1 in
     same w
   where
-    same : {g k : Heard} → announced.Whole g ≡ announced.Whole k → g ≡ k
+    same : {g k : Heard} → ◌≡◌ {A = Result Heard Refusal} (Ok g) (Ok k) → g ≡ k
     same {g} {k} w = cc
 
-pub heard_is : (magic : ℕ) (s : List ℕ) (h : Heard) → announced_of magic s ≡ announced.Whole h → heard_of magic s ≡ h
+pub heard_is : (magic : ℕ) (s : List ℕ) (h : Heard) → announced_of magic s ≡ Ok h → heard_of magic s ≡ h
 unfolding announced_of
 heard_is magic s h e = heard_by magic s h (check_of magic s) e
 
-same_notice : {a b : kept.Notice} → Notice a ≡ Notice b → a ≡ b
+same_notice : {a b : kept.Notice} → ◌≡◌ {A = Result Notice Refusal} (Ok a) (Ok b) → a ≡ b
 same_notice {a} {b} e = cc
 
-pub judged_is : (set : Settings) (h : Heard) (a : kept.Notice) → judged_of set h ≡ Notice a → notice_of h ≡ a
+pub judged_is : (set : Settings) (h : Heard) (a : kept.Notice) → judged_of set h ≡ Ok a → notice_of h ≡ a
 judged_is set h a e =
-    let own = (passed (Refused Domain) (refuse (eqb h.header.source.clock set.clock) (Refused Own) (Notice (notice_of h))) (Notice a) (not (eqb h.header.domain set.domain)) unlike e).1 in
-    same_notice (passed (Refused Own) (Notice (notice_of h)) (Notice a) (eqb h.header.source.clock set.clock) unlike own).1
+    let own = (passed (Err Domain) (refuse (eqb h.header.source.clock set.clock) (Err Own) (Ok (notice_of h))) (Ok a) (not (eqb h.header.domain set.domain)) unlike e).1 in
+    same_notice (passed (Err Own) (Ok (notice_of h)) (Ok a) (eqb h.header.source.clock set.clock) unlike own).1
 
-fits_by : (set : Settings) (s : List ℕ) (a : kept.Notice) (x : Announced) → announced_of set.magic s ≡ x → admitted_by set x ≡ Notice a → Octets s → Fitting a
-fits_by set s a (announced.Refused y) r e o = absurd (unlike e)
-fits_by set s a (announced.Whole h) r e o =
+fits_by : (set : Settings) (s : List ℕ) (a : kept.Notice) (x : Result Heard Refusal) → announced_of set.magic s ≡ x → admitted_by set x ≡ Ok a → Octets s → Fitting a
+fits_by set s a (Err y) r e o = absurd (unlike e)
+fits_by set s a (Ok h) r e o =
     subst Fitting (judged_is set h a e) (subst (λ (g : Heard). Fitting (notice_of g)) (heard_is set.magic s h r) (octets_fit set.magic s o))
 
 -- what is admitted fits
-pub notice_fits : (set : Settings) (port : ℕ) (s : List ℕ) (a : kept.Notice) → admitted_of set port s ≡ Notice a → Octets s → Fitting a
+pub notice_fits : (set : Settings) (port : ℕ) (s : List ℕ) (a : kept.Notice) → admitted_of set port s ≡ Ok a → Octets s → Fitting a
 unfolding admitted_of
 notice_fits set port s a e o =
     fits_by set s a (announced_of set.magic s) refl
-    (passed (Refused Port) (admitted_by set (announced_of set.magic s)) (Notice a) (not (is_port port)) unlike e).1 o
+    (passed (Err Port) (admitted_by set (announced_of set.magic s)) (Ok a) (not (is_port port)) unlike e).1 o

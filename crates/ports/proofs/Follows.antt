@@ -1,5 +1,6 @@
 -- A port's words follow from its own calls: a call writes the words of its own port alone, and what it writes there is decided
 -- by them. So a port's state and answers are those of its own calls, whatever happens on the others.
+use Rattle.std.specs.Prelude.{Result, Ok, Err}
 use mathlib.Core.Path.{◌≡◌, refl, sym, ap, subst, ◌∙◌}
 use mathlib.Core.Bool.{Bool, true, false, not, ◌&&◌}
 use mathlib.Core.List.{List, [], ◌∷◌, ◌++◌}
@@ -15,36 +16,33 @@ use Rattle.refusal.specs.Choice.{pick, refuse}
 use Rattle.refusal.specs.declared.Refusal.{Refusal}
 use Rattle.refusal.specs.declared.Refusal.TheVariants.{Port, Field}
 use Rattle.rank.specs.Ranked.{is_port}
-use Rattle.senders.specs.declared.Plan.{Plan}
-use Rattle.senders.specs.declared.Plan.TheVariants.{Refuse, Put}
 use Rattle.senders.specs.Port.{outcome_of}
-use Rattle.refusal.specs.declared.Outcome.TheVariants as outcome
 use Rattle.slots.specs.Words.{port_of, words_after}
 use Rattle.slots.proofs.Laws.{length_splice, block_same, block_before, block_after}
 use Rattle.slots.proofs.Meaning.{ne_split, after_length}
 use Rattle.ports.specs.declared.intake.Settings.{Settings}
-use Rattle.ports.specs.declared.intake.Admitted.{Admitted}
-use Rattle.ports.specs.declared.intake.Admitted.TheVariants.{Refused, Notice}
 use Rattle.ports.specs.Words.{own, with, port_at}
 use Rattle.ports.specs.Intake.{admitted_of, plan_by, plan_at, state_after}
 use Rattle.ports.specs.Interval.{is_interval, exponent_of, interval_set, interval_after}
 use Rattle.ports.specs.Asking.{candidate_on, best_on, status_of, looked_at}
 use Rattle.ports.specs.History.{Call, taking, setting, asking, port_of_call, after, run, own_calls, own_after, run_own}
 use Rattle.ports.proofs.Laws.{port_bounds, with_own, state_of_lem}
+use Rattle.senders.specs.declared.Notice.{Notice}
+use Rattle.senders.specs.declared.Record.{Record}
 
 -- ---- a refusal leaves every word
-pub refusal_leaves : (ws : List ℕ) (port t : ℕ) (q : Plan) (x : Refusal) → outcome_of q ≡ outcome.Refused x → state_after ws port t q ≡ ws
-refusal_leaves ws port t (Refuse y) x e = refl
-refusal_leaves ws port t (Put i r) x e = absurd (let z : ◌≡◌ {A = ℕ} 0 1 = cc in omega arith)
+pub refusal_leaves : (ws : List ℕ) (port t : ℕ) (q : Result (ℕ × Record) Refusal) (x : Refusal) → outcome_of q ≡ Err x → state_after ws port t q ≡ ws
+refusal_leaves ws port t (Err y) x e = refl
+refusal_leaves ws port t (Ok (i, r)) x e = absurd (let z : ◌≡◌ {A = ℕ} 0 1 = cc in omega arith)
 
-set_leaves_by : (ws : List ℕ) (port e : ℕ) (x : Refusal) (a b : Bool) → refuse (not a) (outcome.Refused Port) (refuse (not b) (outcome.Refused Field) outcome.Done) ≡ outcome.Refused x
+set_leaves_by : (ws : List ℕ) (port e : ℕ) (x : Refusal) (a b : Bool) → refuse (not a) (Err Port) (refuse (not b) (Err Field) (Ok tt)) ≡ Err x
     → pick (a && b) (with ws port (set (own ws port) 1 e)) ws ≡ ws
 unfolding refuse
 set_leaves_by ws port e x true true h = absurd (let z : ◌≡◌ {A = ℕ} 0 1 = cc in omega arith)
 set_leaves_by ws port e x true false h = refl
 set_leaves_by ws port e x false b h = refl
 
-pub set_refusal_leaves : (ws : List ℕ) (port : ℕ) (k : ℤ) (x : Refusal) → interval_set port k ≡ outcome.Refused x → interval_after ws port k ≡ ws
+pub set_refusal_leaves : (ws : List ℕ) (port : ℕ) (k : ℤ) (x : Refusal) → interval_set port k ≡ Err x → interval_after ws port k ≡ ws
 set_refusal_leaves ws port k x e = set_leaves_by ws port (exponent_of k) x (is_port port) (is_interval k) e
 
 -- ---- a part of the words
@@ -84,9 +82,9 @@ module _ (ws : List ℕ) (n : length ws ≡ 1764) (port : ℕ) (ip : is_port por
         (ne_split q port other)
 
 -- ---- a call, on its own words
-by_length : (l : List ℕ) (t : ℕ) (x : Admitted) → length l ≡ 98 → length (words_after l t (plan_by (port_of l) t x)) ≡ 98
-by_length l t (Refused x) n = n
-by_length l t (Notice a) n = after_length l t a n
+by_length : (l : List ℕ) (t : ℕ) (x : Result Notice Refusal) → length l ≡ 98 → length (words_after l t (plan_by (port_of l) t x)) ≡ 98
+by_length l t (Err x) n = n
+by_length l t (Ok a) n = after_length l t a n
 
 set_length : (l : List ℕ) (e : ℕ) (b : Bool) → length l ≡ 98 → length (pick b (set l 1 e) l) ≡ 98
 set_length l e true n = length-set l 1 e ∙ n

@@ -1,4 +1,5 @@
 -- What is kept of an Announce that is admitted stands in its octets, and may be read there again.
+use Rattle.std.specs.Prelude.{Result, Ok, Err}
 use mathlib.Core.Path.{◌≡◌, refl, sym, ap, ◌∙◌}
 use mathlib.Core.Bool.{not}
 use mathlib.Core.List.{List}
@@ -10,26 +11,22 @@ use borrow.Author.Tests.{not-false, eqb-true}
 use Rattle.octets.specs.Be.{be}
 use Rattle.refusal.specs.Choice.{refuse}
 use Rattle.refusal.specs.declared.Refusal.TheVariants.{«Type», Port}
-use Rattle.refusal.specs.declared.Outcome.{Outcome}
-use Rattle.refusal.specs.declared.Outcome.TheVariants as outcome
 use Rattle.refusal.proofs.Choice.{passed}
 use Rattle.rank.specs.declared.Grandmaster.{Grandmaster}
 use Rattle.rank.specs.Ranked.{is_port}
 use Rattle.message.specs.Fields.{type_of, fixed_size, announce_of}
 use Rattle.message.specs.Reading.{check_of, by}
 use Rattle.message.specs.Announced.{announced_of}
-use Rattle.message.specs.declared.announce.Announced.{Announced}
-use Rattle.message.specs.declared.announce.Announced.TheVariants as announced
 use Rattle.message.specs.declared.announce.Heard.{Heard}
 use Rattle.message.proofs.Laws.{fixed_part}
 use Rattle.senders.specs.declared.Notice as kept
 use Rattle.senders.specs.declared.Record.{Record}
 use Rattle.slots.specs.Words.{grade_word}
 use Rattle.ports.specs.declared.intake.Settings.{Settings}
-use Rattle.ports.specs.declared.intake.Admitted.TheVariants.{Refused, Notice}
 use Rattle.ports.specs.Intake.{grandmaster_of, notice_of, admitted_by, admitted_of}
 use Rattle.ports.proofs.Laws.{unlike}
 use Rattle.ports.proofs.Fits.{heard_of, no_whole, heard_is, judged_is}
+use Rattle.refusal.specs.declared.Refusal.{Refusal}
 
 -- the keys of the quality stand in their order, and stepsRemoved behind the grandmaster
 pub grade_is : (s : List ℕ) → be 6 s 47 * 0x10000 + be 2 s 61 ≡ grade_word (grandmaster_of (announce_of s)) (announce_of s).steps
@@ -37,19 +34,19 @@ unfolding announce_of be
 grade_is s = omega arith
 
 -- an Announce has its fixed size
-long_by : (magic : ℕ) (s : List ℕ) (h : Heard) (c : Outcome) → check_of magic s ≡ c
-    → by c announced.Refused (refuse (not (eqb (type_of s) 0xB)) (announced.Refused «Type») (announced.Whole (heard_of magic s))) ≡ announced.Whole h
+long_by : (magic : ℕ) (s : List ℕ) (h : Heard) (c : Result (Unit {0}) Refusal) → check_of magic s ≡ c
+    → by c Err (refuse (not (eqb (type_of s) 0xB)) (Err «Type») (Ok (heard_of magic s))) ≡ Ok h
     → 64 ≤ length s
 unfolding fixed_size
-long_by magic s h (outcome.Refused x) d e = absurd (no_whole e)
-long_by magic s h outcome.Done d e =
+long_by magic s h (Err x) d e = absurd (no_whole e)
+long_by magic s h (Ok tt) d e =
     let k : type_of s ≡ 0xB =
-    eqb-true _ _ (not-false _ (passed (announced.Refused «Type») (announced.Whole (heard_of magic s)) (announced.Whole h) (not (eqb (type_of s) 0xB)) no_whole e).0) in
+    eqb-true _ _ (not-false _ (passed (Err «Type») (Ok (heard_of magic s)) (Ok h) (not (eqb (type_of s) 0xB)) no_whole e).0) in
     let z : fixed_size (type_of s) ≡ 64 = ap fixed_size k in
     let l = (fixed_part magic s d).1 in
     omega arith
 
-long : (magic : ℕ) (s : List ℕ) (h : Heard) → announced_of magic s ≡ announced.Whole h → 64 ≤ length s
+long : (magic : ℕ) (s : List ℕ) (h : Heard) → announced_of magic s ≡ Ok h → 64 ≤ length s
 unfolding announced_of
 long magic s h e = long_by magic s h (check_of magic s) refl e
 
@@ -57,19 +54,19 @@ long magic s h e = long_by magic s h (check_of magic s) refl e
 abbrev pub Stands : List ℕ → kept.Notice → Type 0
 Stands s a = (a.grandmaster ≡ grandmaster_of (announce_of s)) × (a.steps ≡ (announce_of s).steps)
 
-stands_by : (set : Settings) (s : List ℕ) (a : kept.Notice) (x : Announced) → announced_of set.magic s ≡ x → admitted_by set x ≡ Notice a
+stands_by : (set : Settings) (s : List ℕ) (a : kept.Notice) (x : Result Heard Refusal) → announced_of set.magic s ≡ x → admitted_by set x ≡ Ok a
     → (64 ≤ length s) × Stands s a
-stands_by set s a (announced.Refused y) r e = absurd (unlike e)
-stands_by set s a (announced.Whole h) r e =
+stands_by set s a (Err y) r e = absurd (unlike e)
+stands_by set s a (Ok h) r e =
     let n : a ≡ notice_of (heard_of set.magic s) = sym (ap notice_of (heard_is set.magic s h r) ∙ judged_is set h a e) in
     (long set.magic s h r, (ap (λ (z : kept.Notice). z.grandmaster) n, ap (λ (z : kept.Notice). z.steps) n))
 
 -- what is admitted
-pub admitted_stands : (set : Settings) (port : ℕ) (s : List ℕ) (a : kept.Notice) → admitted_of set port s ≡ Notice a → (64 ≤ length s) × Stands s a
+pub admitted_stands : (set : Settings) (port : ℕ) (s : List ℕ) (a : kept.Notice) → admitted_of set port s ≡ Ok a → (64 ≤ length s) × Stands s a
 unfolding admitted_of
 admitted_stands set port s a e =
     stands_by set s a (announced_of set.magic s) refl
-    (passed (Refused Port) (admitted_by set (announced_of set.magic s)) (Notice a) (not (is_port port)) unlike e).1
+    (passed (Err Port) (admitted_by set (announced_of set.magic s)) (Ok a) (not (is_port port)) unlike e).1
 
 -- the last two words of its record
 pub last_two : (s : List ℕ) (a : kept.Notice) (r : Record) (x y : ℕ) → r.notice ≡ a → Stands s a

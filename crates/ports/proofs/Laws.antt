@@ -1,4 +1,5 @@
 -- Laws of eighteen ports: a port that is one, its part of the words, and the cases of taking, asking and setting.
+use Rattle.std.specs.Prelude.{Option, Some, Result, Ok, Err}
 use mathlib.Core.Path.{◌≡◌, refl, sym, ap, ◌∙◌}
 use mathlib.Core.Bool.{Bool, true, false, not, or-false}
 use mathlib.Core.List.{List, ◌++◌}
@@ -17,27 +18,21 @@ pub use Rattle.refusal.proofs.Limits.{port_bounds}
 use Rattle.refusal.specs.Choice.{refuse}
 use Rattle.refusal.specs.declared.Refusal.{Refusal}
 use Rattle.refusal.specs.declared.Refusal.TheVariants.{Port, Backward, Field}
-use Rattle.refusal.specs.declared.Outcome.{Outcome}
-use Rattle.refusal.specs.declared.Outcome.TheVariants as outcome
 use Rattle.refusal.proofs.Choice.{passed}
 use Rattle.rank.specs.declared.Candidate.{Candidate}
 use Rattle.rank.specs.Ranked.{is_port}
 use Rattle.senders.specs.declared.Notice as kept
-use Rattle.senders.specs.declared.Plan.{Plan}
-use Rattle.senders.specs.declared.Plan.TheVariants.{Refuse, Put}
-use Rattle.senders.specs.declared.Asked.{Asked}
-use Rattle.senders.specs.declared.Asked.TheVariants as asked
 use Rattle.senders.specs.Port as senders
 use Rattle.slots.specs.Words.{block, port_of, words_after}
 use Rattle.slots.proofs.Laws.{lent}
 use Rattle.ports.specs.declared.intake.Settings.{Settings}
-use Rattle.ports.specs.declared.intake.Admitted.{Admitted}
-use Rattle.ports.specs.declared.intake.Admitted.TheVariants.{Refused, Notice}
 use Rattle.ports.specs.Words.{own, with, port_at}
 use Rattle.ports.specs.Intake.{admitted_of, admitted_by, plan_by, plan_at, state_after}
 use Rattle.ports.specs.Asking.{on_port}
 use Rattle.ports.specs.Interval.{is_interval, in_range, interval_of, set_by, after_by, interval_set, interval_after}
 use Rattle.message.specs.Announced.{announced_of}
+use Rattle.senders.specs.declared.Notice.{Notice}
+use Rattle.senders.specs.declared.Record.{Record}
 
 -- the part that is lent is the port's own
 pub lent_own : (ws : List ℕ) (port b : ℕ) → b ≡ 98 * (port - 1) → take (b + 98 - b) (drop b ws) ≡ own ws port
@@ -54,33 +49,33 @@ with_own ws port =
 
 -- ---- taking
 -- what is refused is no notice
-pub unlike : {x : Refusal} {a : kept.Notice} → Refused x ≡ Notice a → ⊥
+pub unlike : {x : Refusal} {a : kept.Notice} → ◌≡◌ {A = Result Notice Refusal} (Err x) (Ok a) → ⊥
 unlike {x} {a} e = let z : ◌≡◌ {A = ℕ} 0 1 = cc in omega arith
 
 -- what is admitted is on a port
-pub admitted_port : (set : Settings) (port : ℕ) (s : List ℕ) (a : kept.Notice) → admitted_of set port s ≡ Notice a → is_port port ≡ true
+pub admitted_port : (set : Settings) (port : ℕ) (s : List ℕ) (a : kept.Notice) → admitted_of set port s ≡ Ok a → is_port port ≡ true
 unfolding admitted_of
 admitted_port set port s a e =
-    not-false _ (passed (Refused Port) (admitted_by set (announced_of set.magic s)) (Notice a) (not (is_port port)) unlike e).0
+    not-false _ (passed (Err Port) (admitted_by set (announced_of set.magic s)) (Ok a) (not (is_port port)) unlike e).0
 
-pub state_of_lem : (ws : List ℕ) (port t : ℕ) (q : Plan) → with ws port (words_after (own ws port) t q) ≡ state_after ws port t q
-state_of_lem ws port t (Refuse x) = with_own ws port
-state_of_lem ws port t (Put i r) = refl
+pub state_of_lem : (ws : List ℕ) (port t : ℕ) (q : Result (ℕ × Record) Refusal) → with ws port (words_after (own ws port) t q) ≡ state_after ws port t q
+state_of_lem ws port t (Err x) = with_own ws port
+state_of_lem ws port t (Ok (i, r)) = refl
 
 module _ (set : Settings) (ws : List ℕ) (port t : ℕ) (s : List ℕ) where
-  pub take_refused : (q : Admitted) (x : Refusal) → q ≡ admitted_of set port s → q ≡ Refused x
-      → (outcome.Refused x ≡ senders.outcome_of (plan_at set ws port t s)) × (ws ≡ state_after ws port t (plan_at set ws port t s))
+  pub take_refused : (q : Result Notice Refusal) (x : Refusal) → q ≡ admitted_of set port s → q ≡ Err x
+      → (Err x ≡ senders.outcome_of (plan_at set ws port t s)) × (ws ≡ state_after ws port t (plan_at set ws port t s))
   unfolding plan_at
   take_refused q x e f =
-      let p : plan_by (port_at ws port) t (Refused x) ≡ plan_by (port_at ws port) t (admitted_of set port s) = ap (plan_by (port_at ws port) t) (sym f ∙ e) in
+      let p : plan_by (port_at ws port) t (Err x) ≡ plan_by (port_at ws port) t (admitted_of set port s) = ap (plan_by (port_at ws port) t) (sym f ∙ e) in
       (ap senders.outcome_of p, ap (state_after ws port t) p)
 
-  pub take_on : (q : Admitted) (a : kept.Notice) (part vs : List ℕ) (r : Outcome) → q ≡ admitted_of set port s → q ≡ Notice a → part ≡ own ws port
+  pub take_on : (q : Result Notice Refusal) (a : kept.Notice) (part vs : List ℕ) (r : Result (Unit {0}) Refusal) → q ≡ admitted_of set port s → q ≡ Ok a → part ≡ own ws port
       → (r ≡ senders.outcome_of (senders.plan_of (port_of part) t a)) × (vs ≡ words_after part t (senders.plan_of (port_of part) t a))
       → (r ≡ senders.outcome_of (plan_at set ws port t s)) × (with ws port vs ≡ state_after ws port t (plan_at set ws port t s))
   unfolding plan_at
   take_on q a part vs r e f ep w =
-      let p : plan_by (port_at ws port) t (Notice a) ≡ plan_by (port_at ws port) t (admitted_of set port s) = ap (plan_by (port_at ws port) t) (sym f ∙ e) in
+      let p : plan_by (port_at ws port) t (Ok a) ≡ plan_by (port_at ws port) t (admitted_of set port s) = ap (plan_by (port_at ws port) t) (sym f ∙ e) in
       let its : senders.plan_of (port_of part) t a ≡ senders.plan_of (port_at ws port) t a = ap (λ (l : List ℕ). senders.plan_of (port_of l) t a) ep in (
         w.0 ∙ ap senders.outcome_of (its ∙ p),
         ap (with ws port) (w.1 ∙ ap (λ (l : List ℕ). words_after l t (senders.plan_of (port_of l) t a)) ep)
@@ -90,15 +85,15 @@ module _ (set : Settings) (ws : List ℕ) (port t : ℕ) (s : List ℕ) where
 
 -- ---- asking
 -- what is found was refused neither with 8 nor with 11
-module _ (ws : List ℕ) (port t : ℕ) (answer : Asked) (c : Candidate) where
-  not_found : (x : Refusal) → asked.Refused x ≡ asked.Found c → ⊥
+module _ (ws : List ℕ) (port t : ℕ) (answer : Result (Option Candidate) Refusal) (c : Candidate) where
+  not_found : (x : Refusal) → ◌≡◌ {A = Result (Option Candidate) Refusal} (Err x) (Ok (Some c)) → ⊥
   not_found x e = let z : ◌≡◌ {A = ℕ} 0 1 = cc in omega arith
 
-  pub asked_found : on_port port (senders.asked_of (port_at ws port) t answer) ≡ asked.Found c → (is_port port ≡ true) × (answer ≡ asked.Found c)
+  pub asked_found : on_port port (senders.asked_of (port_at ws port) t answer) ≡ Ok (Some c) → (is_port port ≡ true) × (answer ≡ Ok (Some c))
   asked_found e =
       let p = port_at ws port in
-      let on = passed (asked.Refused Port) (senders.asked_of p t answer) (asked.Found c) (not (is_port port)) (not_found Port) e in
-      (not-false _ on.0, (passed (asked.Refused Backward) answer (asked.Found c) (ltb t p.last) (not_found Backward) on.1).1)
+      let on = passed (Err Port) (senders.asked_of p t answer) (Ok (Some c)) (not (is_port port)) (not_found Port) e in
+      (not-false _ on.0, (passed (Err Backward) answer (Ok (Some c)) (ltb t p.last) (not_found Backward) on.1).1)
 
 -- ---- the interval
 leb_same : (a b n m : ℕ) → (a ≤ b → n ≤ m) → (n ≤ m → a ≤ b) → leb a b ≡ leb n m
@@ -130,16 +125,16 @@ interval_high e h =
     ap (to_z w8) k ∙ to_z-neg w8 (7 - e % 8) (omega arith) ∙ sym (rw (le-ltb _ _ h))
 
 module _ (ws : List ℕ) (port : ℕ) (b c f : Bool) (e : ℕ) (eb : b ≡ is_port port) (ec : c ≡ f) where
-  pub set_no_port : not b ≡ true → (outcome.Refused Port ≡ set_by port f) × (ws ≡ after_by ws port f e)
+  pub set_no_port : not b ≡ true → (Err Port ≡ set_by port f) × (ws ≡ after_by ws port f e)
   unfolding refuse
   set_no_port h = (rw (sym eb ∙ not-true _ h), rw (sym eb ∙ not-true _ h))
 
-  pub set_no_interval : not b ≡ false → not c ≡ true → (outcome.Refused Field ≡ set_by port f) × (ws ≡ after_by ws port f e)
+  pub set_no_interval : not b ≡ false → not c ≡ true → (Err Field ≡ set_by port f) × (ws ≡ after_by ws port f e)
   unfolding refuse
   set_no_interval h g = (rw (sym eb ∙ not-false _ h, sym ec ∙ not-true _ g), rw (sym eb ∙ not-false _ h, sym ec ∙ not-true _ g))
 
   pub set_done : (vs part : List ℕ) → not b ≡ false → not c ≡ false → part ≡ own ws port → vs ≡ set part 1 e
-      → (outcome.Done ≡ set_by port f) × (with ws port vs ≡ after_by ws port f e)
+      → (Ok tt ≡ set_by port f) × (with ws port vs ≡ after_by ws port f e)
   unfolding refuse
   set_done vs part h g ep ev = (
     rw (sym eb ∙ not-false _ h, sym ec ∙ not-false _ g),
@@ -147,7 +142,7 @@ module _ (ws : List ℕ) (port : ℕ) (b c f : Bool) (e : ℕ) (eb : b ≡ is_po
   )
 
 -- from the octet to the number
-pub set_is : (ws : List ℕ) (port : ℕ) (k : ℤ) (e : ℕ) (r : Outcome) (vs : List ℕ) → SFits w8 k → e ≡ of_z w8 k
+pub set_is : (ws : List ℕ) (port : ℕ) (k : ℤ) (e : ℕ) (r : Result (Unit {0}) Refusal) (vs : List ℕ) → SFits w8 k → e ≡ of_z w8 k
     → (r ≡ set_by port (in_range e)) × (vs ≡ after_by ws port (in_range e) (e % 8)) → (r ≡ interval_set port k) × (vs ≡ interval_after ws port k)
 set_is ws port k e r vs f ee w =
     let t : in_range e ≡ is_interval k = ap in_range ee ∙ interval_test k f in

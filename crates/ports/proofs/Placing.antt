@@ -1,4 +1,5 @@
 -- Places in the words of eighteen ports: a place is in its port's words, tells the port, and is that of the port's best.
+use Rattle.std.specs.Prelude.{Some, Ok}
 use Prim.Native.Nat.{ℕ, zero, suc, ◌+◌, ◌-◌, ◌*◌, ◌/◌, ◌≤◌, ◌<◌}
 use mathlib.Core.Path.{◌≡◌, refl, sym, ap, ◌∙◌}
 use mathlib.Core.List.{List, [], ◌∷◌}
@@ -11,7 +12,6 @@ use borrow.Author.Tests.{eqb-false, ne_eqb}
 use Rattle.rank.specs.Order.{earlier_of}
 use Rattle.rank.specs.Ranked.{is_port}
 use Rattle.rank.proofs.Best.{cases}
-use Rattle.senders.specs.declared.Asked.TheVariants.{Found}
 use Rattle.senders.specs.Record.{candidate_of}
 use Rattle.senders.specs.Port.{best_of}
 use Rattle.slots.specs.Words.{block, record_of}
@@ -58,7 +58,7 @@ module _ (port : ℕ) (is : is_port port ≡ true) where
         (λ e.
         let n = eqb-false i 0 e in
         let z : eqb (b + i) 0 ≡ false = ne_eqb (b + i) 0 (λ q. n (omega arith)) in
-        rw (e, z) (ap Found (ap (λ (k : ℕ). candidate_of k (record_of (block ws (b + i) 6))) (port_back i h) ∙ ap (λ (l : List ℕ). candidate_of port (record_of l)) (sym (own_block ws port i h)))))
+        rw (e, z) (ap Ok (Some (ap (λ (k : ℕ). candidate_of k (record_of (block ws (b + i) 6))) (port_back i h) ∙ ap (λ (l : List ℕ). candidate_of port (record_of l)) (sym (own_block ws port i h))))))
 
     -- THE CANDIDATE AT A PORT'S PLACE IS THE PORT'S BEST
     pub best_at : Words64 ws → found_at ws (place_on ws port t) ≡ best_of port (port_at ws port) t

@@ -1,5 +1,6 @@
 -- What the customer is promised over any history of calls on any ports: nobody is pushed out, the words mean the port that the
 -- rules give, and no sender has two records.
+use Rattle.std.specs.Prelude.{Result, Ok, Err}
 use mathlib.Core.Path.{◌≡◌, refl, sym, ap, subst, ◌∙◌}
 use mathlib.Core.Bool.{Bool, true, false, not, ◌&&◌}
 use mathlib.Core.List.{List, [], ◌∷◌}
@@ -16,7 +17,6 @@ use Rattle.refusal.specs.declared.Refusal.TheVariants.{Full}
 use Rattle.rank.specs.Ranked.{is_port, all_valid}
 use Rattle.rank.specs.declared.PortIdentity.{PortIdentity}
 use Rattle.senders.specs.declared.Notice as kept
-use Rattle.senders.specs.declared.Plan.TheVariants.{Refuse}
 use Rattle.senders.specs.Record.{window_of, is_of, is_live}
 use Rattle.senders.specs.Port.{slot_of, tab, port_after, plan_of, candidate_in, candidates_of, gather, New, Live, AllLive, Single}
 use Rattle.senders.proofs.Intake.{single_kept}
@@ -28,8 +28,6 @@ use Rattle.slots.proofs.Laws.{length_tab, tab_ext}
 use Rattle.slots.proofs.Cases.{slot_is}
 use Rattle.slots.proofs.Meaning.{Fitting, means, keeps_slot, exponent_means}
 use Rattle.ports.specs.declared.intake.Settings.{Settings}
-use Rattle.ports.specs.declared.intake.Admitted.{Admitted}
-use Rattle.ports.specs.declared.intake.Admitted.TheVariants.{Refused, Notice}
 use Rattle.ports.specs.Words.{own, port_at}
 use Rattle.ports.specs.Intake.{admitted_of, plan_by, plan_at, state_after}
 use Rattle.ports.specs.Interval.{is_interval, exponent_of}
@@ -37,14 +35,16 @@ use Rattle.ports.specs.Asking.{candidate_on}
 use Rattle.ports.specs.History.{Call, taking, setting, asking, port_of_call, after, run, own_after, fresh, Spares, LivesThrough, OctetCall, OctetCalls}
 use Rattle.ports.proofs.Follows.{own_length, after_all, own_after_lem, by_own}
 use Rattle.ports.proofs.Fits.{notice_fits}
+use Rattle.senders.specs.declared.Notice.{Notice}
+use Rattle.refusal.specs.declared.Refusal.{Refusal}
 
 -- ---- nobody is pushed out
 module _ (l : List ℕ) (n : length l ≡ 98) (i : ℕ) (h : i < 16) where
-  take_keeps : (t : ℕ) (x : Admitted)
-      → ((a : kept.Notice) → x ≡ Notice a → (is_of a.sender (slot_of (port_of l) i) ≡ false) × Live (port_of l) t i)
+  take_keeps : (t : ℕ) (x : Result Notice Refusal)
+      → ((a : kept.Notice) → x ≡ Ok a → (is_of a.sender (slot_of (port_of l) i) ≡ false) × Live (port_of l) t i)
       → slot_at (words_after l t (plan_by (port_of l) t x)) i ≡ slot_at l i
-  take_keeps t (Refused x) spares = refl
-  take_keeps t (Notice a) spares =
+  take_keeps t (Err x) spares = refl
+  take_keeps t (Ok a) spares =
       let s = spares a refl in
       keeps_slot l t a n i h s.0 s.1
 
@@ -72,14 +72,14 @@ module _ (q i : ℕ) (iq : is_port q ≡ true) (h : i < 16) where
 
 -- ---- the words mean the port that the rules give
 module _ (l : List ℕ) (t : ℕ) (n : length l ≡ 98) where
-  pub by_means : (x : Admitted) → ((a : kept.Notice) → x ≡ Notice a → Fitting a)
+  pub by_means : (x : Result Notice Refusal) → ((a : kept.Notice) → x ≡ Ok a → Fitting a)
       → port_of (words_after l t (plan_by (port_of l) t x)) ≡ port_after (port_of l) t (plan_by (port_of l) t x)
-  by_means (Refused x) fits = refl
-  by_means (Notice a) fits = means l t a n (fits a refl)
+  by_means (Err x) fits = refl
+  by_means (Ok a) fits = means l t a n (fits a refl)
 
-  by_single : (x : Admitted) → Single (port_of l) → Single (port_after (port_of l) t (plan_by (port_of l) t x))
-  by_single (Refused x) single = single
-  by_single (Notice a) single = single_kept (port_of l) t a (length_tab 16 (slot_at l)) single
+  by_single : (x : Result Notice Refusal) → Single (port_of l) → Single (port_after (port_of l) t (plan_by (port_of l) t x))
+  by_single (Err x) single = single
+  by_single (Ok a) single = single_kept (port_of l) t a (length_tab 16 (slot_at l)) single
 
 -- THE EXIT WORDS MEAN THE PORT AFTER THE PLAN
 pub take_means : (set : Settings) (ws : List ℕ) (port t : ℕ) (s : List ℕ) → length ws ≡ 1764 → is_port port ≡ true → Octets s
@@ -90,20 +90,20 @@ take_means set ws port t s n ip o =
     ∙ by_means (own ws port) t (own_length ws n port ip) (admitted_of set port s) (λ a e. notice_fits set port s a e o)
 
 -- ---- 13, and the places that are used again: what is admitted is planned by the port's records
-pub planned : (set : Settings) (ws : List ℕ) (port t : ℕ) (s : List ℕ) (a : kept.Notice) → admitted_of set port s ≡ Notice a
+pub planned : (set : Settings) (ws : List ℕ) (port t : ℕ) (s : List ℕ) (a : kept.Notice) → admitted_of set port s ≡ Ok a
     → plan_at set ws port t s ≡ plan_of (port_at ws port) t a
 unfolding plan_at
 planned set ws port t s a e = ap (plan_by (port_at ws port) t) e
 
-module _ (set : Settings) (ws : List ℕ) (port t : ℕ) (s : List ℕ) (a : kept.Notice) (admitted : admitted_of set port s ≡ Notice a) where
+module _ (set : Settings) (ws : List ℕ) (port t : ℕ) (s : List ℕ) (a : kept.Notice) (admitted : admitted_of set port s ≡ Ok a) where
   size : length (port_at ws port).slots ≡ 16
   size = length_tab 16 (slot_at (own ws port))
 
   -- REFUSED 13 EXACTLY WHEN THE SENDER IS NEW AND SIXTEEN ARE LIVE
-  pub full_only : plan_at set ws port t s ≡ Refuse Full → ((port_at ws port).last ≤ t) × New (port_at ws port) a × AllLive (port_at ws port) t
+  pub full_only : plan_at set ws port t s ≡ Err Full → ((port_at ws port).last ≤ t) × New (port_at ws port) a × AllLive (port_at ws port) t
   full_only e = intake.full_only (port_at ws port) t a size (sym (planned set ws port t s a admitted) ∙ e)
 
-  pub full_when : (port_at ws port).last ≤ t → New (port_at ws port) a → AllLive (port_at ws port) t → plan_at set ws port t s ≡ Refuse Full
+  pub full_when : (port_at ws port).last ≤ t → New (port_at ws port) a → AllLive (port_at ws port) t → plan_at set ws port t s ≡ Err Full
   full_when h new live = planned set ws port t s a admitted ∙ intake.full_when (port_at ws port) t a size h new live
 
   -- AN EXPIRED PLACE IS USED AGAIN, the lowest first

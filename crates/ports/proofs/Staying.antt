@@ -1,4 +1,5 @@
 -- A LIVE SENDER KEEPS ITS PLACE, over any calls on any ports, its own Announces among them, until it falls silent itself.
+use Rattle.std.specs.Prelude.{Result, Ok, Err}
 use mathlib.Core.Path.{◌≡◌, refl, sym, subst}
 use mathlib.Core.Bool.{Bool, true, false}
 use mathlib.Core.List.{List, [], ◌∷◌}
@@ -14,8 +15,6 @@ use Rattle.senders.proofs.Keeping.{place_kept}
 use Rattle.slots.specs.Words.{port_of, slot_at, words_after}
 use Rattle.slots.proofs.Laws.{length_tab}
 use Rattle.slots.proofs.Meaning.{Fitting, means, exponent_means}
-use Rattle.ports.specs.declared.intake.Admitted.{Admitted}
-use Rattle.ports.specs.declared.intake.Admitted.TheVariants.{Refused, Notice}
 use Rattle.ports.specs.Words.{own}
 use Rattle.ports.specs.Intake.{admitted_of, plan_by}
 use Rattle.ports.specs.Interval.{is_interval, exponent_of}
@@ -23,13 +22,15 @@ use Rattle.ports.specs.History.{Call, taking, setting, asking, port_of_call, aft
 use Rattle.ports.specs.Staying.{IsPlaceOf, FindsLive, StaysLive}
 use Rattle.ports.proofs.Follows.{own_length, after_all, by_own}
 use Rattle.ports.proofs.Fits.{notice_fits}
+use Rattle.senders.specs.declared.Notice.{Notice}
+use Rattle.refusal.specs.declared.Refusal.{Refusal}
 
 module _ (l : List ℕ) (n : length l ≡ 98) (i : ℕ) (x : PortIdentity) (its : is_of x (slot_of (port_of l) i) ≡ true) where
-  take_holds : (t : ℕ) (b : Admitted)
-      → ((a : kept.Notice) → b ≡ Notice a → Fitting a × (is_of a.sender (slot_of (port_of l) i) ≡ false → Live (port_of l) t i))
+  take_holds : (t : ℕ) (b : Result Notice Refusal)
+      → ((a : kept.Notice) → b ≡ Ok a → Fitting a × (is_of a.sender (slot_of (port_of l) i) ≡ false → Live (port_of l) t i))
       → is_of x (slot_of (port_of (words_after l t (plan_by (port_of l) t b))) i) ≡ true
-  take_holds t (Refused y) f = its
-  take_holds t (Notice a) f =
+  take_holds t (Err y) f = its
+  take_holds t (Ok a) f =
       let g = f a refl in
       subst (λ (p : Port). is_of x (slot_of p i) ≡ true) (sym (means l t a n g.0)) (place_kept (port_of l) t a (length_tab 16 (slot_at l)) i x its g.1)
 

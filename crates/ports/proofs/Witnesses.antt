@@ -1,5 +1,6 @@
 -- Worked inputs, from octets to words, computed. They rule out an intake that does nothing, refuses everything or has one
 -- answer, a port number in our own clock's test, and a window that the sender chooses.
+use Rattle.std.specs.Prelude.{Ok, Err}
 use mathlib.Core.Path.{◌≡◌, refl, ap}
 use mathlib.Core.List.{List, [], ◌∷◌, map}
 use mathlib.Core.Bool.{true, false}
@@ -18,12 +19,10 @@ use Rattle.message.specs.Reading.{check_of}
 use Rattle.message.specs.Announced.{announced_of}
 use Rattle.rank.specs.Ranked.{blank_of}
 use Rattle.senders.specs.declared.Notice as kept
-use Rattle.senders.specs.declared.Plan.TheVariants.{Refuse, Put}
 use Rattle.senders.specs.Record.{fresh_of}
 use Rattle.senders.specs.Port.{tab, first, plan_of}
 use Rattle.slots.specs.Words.{record_of, words_of, port_of, words_after}
 use Rattle.ports.specs.declared.intake.Settings.{Settings}
-use Rattle.ports.specs.declared.intake.Admitted.TheVariants.{Refused, Notice}
 use Rattle.ports.specs.Intake.{admitted_of, plan_by}
 use Rattle.ports.specs.Interval.{is_interval, exponent_of, interval_of}
 
@@ -41,7 +40,7 @@ notice clock port sequence =
     record { sender = record { clock = clock; port = port }; sequence = sequence; grandmaster = blank_of.grandmaster; steps = 0; wrflags = 0 }
 
 -- what is kept of it: the sender's logMessageInterval is not
-heard : admitted_of ours 2 (announce 0 7 1 9) ≡ Notice (notice 7 1 9)
+heard : admitted_of ours 2 (announce 0 7 1 9) ≡ Ok (notice 7 1 9)
 unfolding admitted_of refuse announced_of check_of fault_of fixed_size be header_of announce_of identity_at stamp_of suffix_in walk.walk walk.walk_by
 heard = refl
 
@@ -52,25 +51,25 @@ told =
     ∷ 1 ∷ 2 ∷ 3 ∷ 4 ∷ 0x2B ∷ 0x2C ∷ 0x2D ∷ 0x2F ∷ 0x30 ∷ 0x31 ∷ 0x32 ∷ 0x33 ∷ 0x34 ∷ 0x35 ∷ 0x36 ∷ 0x37 ∷ 0x38 ∷ 0x39 ∷ 0x3A ∷ 0x3B ∷ 0x3C ∷ 0x3D ∷ 0x3E ∷ 0x3F ∷ 0 ∷ 3 ∷ 0 ∷ 0x0A ∷ 8 ∷ 0 ∷ 0x30 ∷ 0xAB ∷ 0xCD ∷ 1 ∷ 0x20 ∷ 0 ∷ 0 ∷ 7 ∷ []
 
 pub each_its_own : admitted_of ours 2 told
-    ≡ Notice (record { sender = record { clock = 0x1112131415161718; port = 0x191A }; sequence = 0x1B1C; grandmaster = record { priority1 = 0x2F; class = 0x30; accuracy = 0x31; variance = 0x3233; priority2 = 0x34; identity = 0x35363738393A3B3C }; steps = 0x3D3E; wrflags = 7 })
+    ≡ Ok (record { sender = record { clock = 0x1112131415161718; port = 0x191A }; sequence = 0x1B1C; grandmaster = record { priority1 = 0x2F; class = 0x30; accuracy = 0x31; variance = 0x3233; priority2 = 0x34; identity = 0x35363738393A3B3C }; steps = 0x3D3E; wrflags = 7 })
 unfolding admitted_of refuse announced_of check_of fault_of fixed_size be header_of announce_of identity_at stamp_of suffix_in suffix_at numbered HasForm misfit_at data_octets walk.next_of walk.walk walk.walk_by
 each_its_own = refl
 
 -- refused before the records are looked at, in the order of the checks
-pub no_port : admitted_of ours 19 [] ≡ Refused Port
+pub no_port : admitted_of ours 19 [] ≡ Err Port
 unfolding admitted_of refuse
 no_port = refl
 
-pub short : admitted_of ours 18 [] ≡ Refused Short
+pub short : admitted_of ours 18 [] ≡ Err Short
 unfolding admitted_of refuse announced_of check_of
 short = refl
 
-pub other_domain : admitted_of ours 2 (announce 1 5 1 9) ≡ Refused Domain
+pub other_domain : admitted_of ours 2 (announce 1 5 1 9) ≡ Err Domain
 unfolding admitted_of refuse announced_of check_of fault_of fixed_size be header_of announce_of identity_at stamp_of suffix_in walk.walk walk.walk_by
 other_domain = refl
 
 -- our clock is our own whatever its port
-pub own_clock : admitted_of ours 2 (announce 0 5 99 9) ≡ Refused Own
+pub own_clock : admitted_of ours 2 (announce 0 5 99 9) ≡ Err Own
 unfolding admitted_of refuse announced_of check_of fault_of fixed_size be header_of announce_of identity_at stamp_of suffix_in walk.walk walk.walk_by
 own_clock = refl
 
@@ -79,10 +78,10 @@ abbrev zeros : List ℕ
 zeros = tab 98 (λ i. 0)
 
 abbrev once : List ℕ
-once = words_after zeros 5 (Put 0 (fresh_of 5 (notice 7 1 9)))
+once = words_after zeros 5 (Ok (0, fresh_of 5 (notice 7 1 9)))
 
 -- taken, at the first time there is: an intake that refuses everything is none
-pub taken : plan_by (port_of zeros) 0 (admitted_of ours 2 (announce 0 7 1 9)) ≡ Put 0 (fresh_of 0 (notice 7 1 9))
+pub taken : plan_by (port_of zeros) 0 (admitted_of ours 2 (announce 0 7 1 9)) ≡ Ok (0, fresh_of 0 (notice 7 1 9))
 unfolding plan_of first tab record_of refuse
 taken = ap (plan_by (port_of zeros) 0) heard
 
@@ -92,16 +91,16 @@ unfolding tab words_of
 time_kept = refl
 
 -- refused by the records
-pub backward : plan_by (port_of once) 4 (admitted_of ours 2 (announce 0 7 1 9)) ≡ Refuse Backward
+pub backward : plan_by (port_of once) 4 (admitted_of ours 2 (announce 0 7 1 9)) ≡ Err Backward
 unfolding plan_of first tab record_of words_of refuse
 backward = ap (plan_by (port_of once) 4) heard
 
-pub stale : plan_by (port_of once) 4000000005 (admitted_of ours 2 (announce 0 7 1 9)) ≡ Refuse Stale
+pub stale : plan_by (port_of once) 4000000005 (admitted_of ours 2 (announce 0 7 1 9)) ≡ Err Stale
 unfolding plan_of first tab record_of words_of refuse
 stale = ap (plan_by (port_of once) 4000000005) heard
 
 -- one nanosecond past the port's own window the sender restarts, though its logMessageInterval is 127
-pub sender_sets_no_window : plan_by (port_of once) 4000000006 (admitted_of ours 2 (announce 0 7 1 9)) ≡ Put 0 (fresh_of 4000000006 (notice 7 1 9))
+pub sender_sets_no_window : plan_by (port_of once) 4000000006 (admitted_of ours 2 (announce 0 7 1 9)) ≡ Ok (0, fresh_of 4000000006 (notice 7 1 9))
 unfolding plan_of first tab record_of words_of refuse
 sender_sets_no_window = ap (plan_by (port_of once) 4000000006) heard
 

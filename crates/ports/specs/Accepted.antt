@@ -1,22 +1,21 @@
 -- What one port accepted, out of the calls of a clock: its history as senders/specs/History has it.
-use Rattle.std.specs.Prelude.{ℕ, ◌<◌, ◌≡◌, List, [], ◌∷◌, eqb}
+use Rattle.std.specs.Prelude.{ℕ, ◌<◌, ◌≡◌, List, [], ◌∷◌, eqb, Some, Result, Ok, Err}
 use Rattle.refusal.specs.Choice.{pick}
 use Rattle.rank.specs.declared.Candidate.{Candidate}
 use Rattle.rank.specs.declared.PortIdentity.{PortIdentity}
-use Rattle.senders.specs.declared.Asked.TheVariants.{Found}
 use Rattle.senders.specs.Record.{window_of}
 use Rattle.senders.specs.History.{PortEvent, announced, interval, Receipt, accepted_from, made_by, Steady}
-use Rattle.ports.specs.declared.intake.Admitted.{Admitted}
-use Rattle.ports.specs.declared.intake.Admitted.TheVariants.{Refused, Notice}
 use Rattle.ports.specs.Intake.{admitted_of}
 use Rattle.ports.specs.Interval.{is_interval, exponent_of}
 use Rattle.ports.specs.Asking.{candidate_on}
 use Rattle.ports.specs.History.{Call, taking, setting, asking, port_of_call}
+use Rattle.senders.specs.declared.Notice.{Notice}
+use Rattle.refusal.specs.declared.Refusal.{Refusal}
 
 -- what a call adds to the history of its port: an Announce that 1 to 10 do not refuse, an interval that 18 does not
-abbrev pub announced_by : ℕ → Admitted → List PortEvent → List PortEvent
-announced_by t (Refused x) hs = hs
-announced_by t (Notice a) hs = announced t a ∷ hs
+abbrev pub announced_by : ℕ → Result Notice Refusal → List PortEvent → List PortEvent
+announced_by t (Err x) hs = hs
+announced_by t (Ok a) hs = announced t a ∷ hs
 
 abbrev pub added_by : Call → List PortEvent → List PortEvent
 added_by (taking set port t s) hs = announced_by t (admitted_of set port s) hs
@@ -52,4 +51,4 @@ pub record SteadyOn (q : ℕ) (cs : List Call) (w : ℕ) : Type 0 where
 pub record IsCandidate (ws : List ℕ) (q t : ℕ) (c : Candidate) : Type 0 where
   pub slot : ℕ
   pub inside : slot < 16
-  pub is : candidate_on ws q slot t ≡ Found c
+  pub is : candidate_on ws q slot t ≡ Ok (Some c)

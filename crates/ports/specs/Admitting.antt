@@ -1,19 +1,19 @@
 -- When an Announce is refused before the port's records are looked at (01, "Numbers that refuse": "Taking an Announce: 8, the
 -- reading checks, 3 if it isn't an Announce, 9, 10, .."), 0 where they are. In proofs/Admitting.antt the answer has its line
 -- here, and a line that holds is the answer.
-use Rattle.std.specs.Prelude.{ℕ, ◌<◌, ◌≡◌, List, true, false}
+use Rattle.std.specs.Prelude.{ℕ, ◌<◌, ◌≡◌, List, true, false, Result, Ok, Err}
 use Rattle.refusal.specs.Refusal.{answer_of}
 use Rattle.message.specs.Fields.{header_of}
 use Rattle.message.specs.When.{TakesWhen}
 use Rattle.rank.specs.Ranked.{is_port}
 use Rattle.ports.specs.declared.intake.Settings.{Settings}
-use Rattle.ports.specs.declared.intake.Admitted.{Admitted}
-use Rattle.ports.specs.declared.intake.Admitted.TheVariants.{Refused, Notice}
+use Rattle.senders.specs.declared.Notice.{Notice}
+use Rattle.refusal.specs.declared.Refusal.{Refusal}
 
 -- this page's number of the answer
-abbrev pub admitted_code : Admitted → ℕ
-admitted_code (Refused x) = answer_of x
-admitted_code (Notice a) = 0
+abbrev pub admitted_code : Result Notice Refusal → ℕ
+admitted_code (Err x) = answer_of x
+admitted_code (Ok a) = 0
 
 -- an Announce on one of the ports, which the reading checks let pass
 abbrev pub IsAnnounce : Settings → ℕ → List ℕ → Type 0

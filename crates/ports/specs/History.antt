@@ -1,13 +1,12 @@
 -- Histories: the calls of a clock one after another, on any ports, each with the settings of its moment
 -- (01, "Sender records": "All answers for a port follow from the settings and that port's own calls.").
-use Rattle.std.specs.Prelude.{ℕ, ◌<◌, ◌≡◌, List, [], ◌∷◌, false, eqb, ℤ, get_or, set}
+use Rattle.std.specs.Prelude.{ℕ, ◌<◌, ◌≡◌, List, [], ◌∷◌, false, eqb, ℤ, get_or, set, Ok}
 use Rattle.refusal.specs.Choice.{pick}
 use Rattle.senders.specs.declared.Notice as kept
 use Rattle.senders.specs.Record.{is_of}
 use Rattle.senders.specs.Port.{slot_of, tab, Live}
 use Rattle.slots.specs.Words.{port_of, words_after}
 use Rattle.ports.specs.declared.intake.Settings.{Settings}
-use Rattle.ports.specs.declared.intake.Admitted.TheVariants.{Notice}
 use Rattle.ports.specs.Words.{port_at, all_words}
 use Rattle.ports.specs.Intake.{admitted_of, plan_by, plan_at, state_after}
 use Rattle.ports.specs.Interval.{is_interval, exponent_of, interval_after}
@@ -57,7 +56,7 @@ fresh = tab all_words (λ i. 0)
 -- finds the record live
 abbrev pub Spares : List ℕ → ℕ → ℕ → Call → Type 0
 Spares ws q i (taking set port t s) =
-    (a : kept.Notice) → admitted_of set port s ≡ Notice a → port ≡ q → (is_of a.sender (slot_of (port_at ws q) i) ≡ false) × Live (port_at ws q) t i
+    (a : kept.Notice) → admitted_of set port s ≡ Ok a → port ≡ q → (is_of a.sender (slot_of (port_at ws q) i) ≡ false) × Live (port_at ws q) t i
 Spares ws q i (setting port k) = Unit {0}
 Spares ws q i (asking port) = Unit {0}
 

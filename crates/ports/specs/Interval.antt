@@ -1,13 +1,12 @@
 -- The announce interval as a setting (01, "Sender records": "an announce interval of 2^k seconds, k from -3 to 4 (0 unless set)").
-use Rattle.std.specs.Prelude.{ℕ, ◌-◌, ◌%◌, List, Bool, not, ◌&&◌, ◌||◌, leb, ltb, ℤ, pos, negsuc, set}
+use Rattle.std.specs.Prelude.{ℕ, ◌-◌, ◌%◌, List, Bool, not, ◌&&◌, ◌||◌, leb, ltb, ℤ, pos, negsuc, set, Result, Ok, Err}
 use Rattle.std.specs.Int.{w8}
 use Rattle.std.proofs.Common.{of_z}
 use Rattle.refusal.specs.Choice.{pick, refuse}
 use Rattle.refusal.specs.declared.Refusal.TheVariants.{Port, Field}
-use Rattle.refusal.specs.declared.Outcome.{Outcome}
-use Rattle.refusal.specs.declared.Outcome.TheVariants.{Done, Refused}
 use Rattle.rank.specs.Ranked.{is_port}
 use Rattle.ports.specs.Words.{own, with}
+use Rattle.refusal.specs.declared.Refusal.{Refusal}
 
 -- "k from -3 to 4"
 abbrev pub is_interval : ℤ → Bool
@@ -26,13 +25,13 @@ abbrev pub interval_of : ℕ → ℤ
 interval_of e = pick (ltb (e % 8) 5) (pos (e % 8)) (negsuc (7 - e % 8))
 
 -- "Settings: 8, 18."; "a setting is out of range"
-abbrev pub set_by : ℕ → Bool → Outcome
-set_by port fits = refuse (not (is_port port)) (Refused Port) (refuse (not fits) (Refused Field) Done)
+abbrev pub set_by : ℕ → Bool → Result (Unit {0}) Refusal
+set_by port fits = refuse (not (is_port port)) (Err Port) (refuse (not fits) (Err Field) (Ok tt))
 
 abbrev pub after_by : List ℕ → ℕ → Bool → ℕ → List ℕ
 after_by ws port fits e = pick (is_port port && fits) (with ws port (set (own ws port) 1 e)) ws
 
-abbrev pub interval_set : ℕ → ℤ → Outcome
+abbrev pub interval_set : ℕ → ℤ → Result (Unit {0}) Refusal
 interval_set port k = set_by port (is_interval k)
 
 abbrev pub interval_after : List ℕ → ℕ → ℤ → List ℕ

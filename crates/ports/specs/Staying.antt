@@ -1,11 +1,10 @@
 -- What a sender has to do to keep its place: be live whenever somebody else announces on its port. Its own Announces, and
 -- whatever happens on other ports, are no danger to it.
-use Rattle.std.specs.Prelude.{ℕ, ◌≡◌, List, [], ◌∷◌, true, false}
+use Rattle.std.specs.Prelude.{ℕ, ◌≡◌, List, [], ◌∷◌, true, false, Ok}
 use Rattle.rank.specs.declared.PortIdentity.{PortIdentity}
 use Rattle.senders.specs.declared.Notice as kept
 use Rattle.senders.specs.Record.{is_of}
 use Rattle.senders.specs.Port.{slot_of, Live}
-use Rattle.ports.specs.declared.intake.Admitted.TheVariants.{Notice}
 use Rattle.ports.specs.Words.{port_at}
 use Rattle.ports.specs.Intake.{admitted_of}
 use Rattle.ports.specs.History.{Call, taking, setting, asking, after}
@@ -18,7 +17,7 @@ IsPlaceOf ws q i x = is_of x (slot_of (port_at ws q) i) ≡ true
 -- at a time at which the record is live
 abbrev pub FindsLive : List ℕ → ℕ → ℕ → Call → Type 0
 FindsLive ws q i (taking set port t s) =
-    (a : kept.Notice) → admitted_of set port s ≡ Notice a → port ≡ q → is_of a.sender (slot_of (port_at ws q) i) ≡ false → Live (port_at ws q) t i
+    (a : kept.Notice) → admitted_of set port s ≡ Ok a → port ≡ q → is_of a.sender (slot_of (port_at ws q) i) ≡ false → Live (port_at ws q) t i
 FindsLive ws q i (setting port k) = Unit {0}
 FindsLive ws q i (asking port) = Unit {0}
 

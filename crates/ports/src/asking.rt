@@ -6,102 +6,85 @@ ghost use Rattle.ports.specs.Asking.{candidate_on, best_on, known_in, status_of,
 ghost use Rattle.slots.specs.Words.{port_words};
 ghost use Rattle.ports.specs.Words.{all_words};
 
+use senders::Record;
+use rank::Candidate;
 use crate::WORDS;
 use refusal::Refusal;
-use senders::Asked;
-use slots::Seen;
 
-// A port's last accepted time and its interval's exponent.
-#[derive(Clone, Copy)]
-pub enum Status {
-    Refused(Refusal),
-    Known(u64, i8),
-}
-
-// What a slot of a port holds.
-#[derive(Clone, Copy)]
-pub enum Looked {
-    Refused(Refusal),
-    Slot(Seen),
-}
-
-fn candidate_in(words: &[u64], port: u8, slot: usize, t: u64) -> Asked
+fn candidate_in(words: &[u64], port: u8, slot: usize, t: u64) -> Result<Option<Candidate>, Refusal>
     requires { length words.now ≡ all_words }
     ensures { result ≡ candidate_on words.now port slot t }
 {
     if !refusal::is_port(port) {
-        return Asked::Refused(Refusal::Port);
+        return Err(Refusal::Port);
     }
     let b = crate::start(port);
     slots::candidate(&words[b..b + slots::WORDS], port, slot, t)
 }
 
 // The candidate in a port's slot at `t`. The sixteen slots, in their order, give the port's candidates.
-pub fn candidate(words: &[u64; WORDS], port: u8, slot: usize, t: u64) -> Asked
+pub fn candidate(words: &[u64; WORDS], port: u8, slot: usize, t: u64) -> Result<Option<Candidate>, Refusal>
     ensures { result ≡ candidate_on words.now port slot t }
 {
     candidate_in(&words[..], port, slot, t)
 }
 
-fn best_in(words: &[u64], port: u8, t: u64) -> Asked
+fn best_in(words: &[u64], port: u8, t: u64) -> Result<Option<Candidate>, Refusal>
     requires { length words.now ≡ all_words }
     ensures { result ≡ best_on words.now port t }
 {
     if !refusal::is_port(port) {
-        return Asked::Refused(Refusal::Port);
+        return Err(Refusal::Port);
     }
     let b = crate::start(port);
     slots::best(&words[b..b + slots::WORDS], port, t)
 }
 
 // The best of a port's candidates at `t`.
-pub fn best(words: &[u64; WORDS], port: u8, t: u64) -> Asked
+pub fn best(words: &[u64; WORDS], port: u8, t: u64) -> Result<Option<Candidate>, Refusal>
     ensures { result ≡ best_on words.now port t }
 {
     best_in(&words[..], port, t)
 }
 
-fn own_status(ws: &[u64]) -> Status
+fn own_status(ws: &[u64]) -> Result<(u64, i8), Refusal>
     requires { length ws.now ≡ port_words }
     ensures { result ≡ known_in ws.now }
 {
-    Status::Known(
-        slots::last(ws),
-        crate::interval::interval_of(slots::exponent(ws)),
-    )
+    Ok((slots::last(ws), crate::interval::interval_of(slots::exponent(ws))))
 }
 
-fn status_in(words: &[u64], port: u8) -> Status
+fn status_in(words: &[u64], port: u8) -> Result<(u64, i8), Refusal>
     requires { length words.now ≡ all_words }
     ensures { result ≡ status_of words.now port }
 {
     if !refusal::is_port(port) {
-        return Status::Refused(Refusal::Port);
+        return Err(Refusal::Port);
     }
     let b = crate::start(port);
     own_status(&words[b..b + slots::WORDS])
 }
 
 // A port's last accepted time and interval.
-pub fn port_status(words: &[u64; WORDS], port: u8) -> Status
+pub fn port_status(words: &[u64; WORDS], port: u8) -> Result<(u64, i8), Refusal>
     ensures { result ≡ status_of words.now port }
 {
     status_in(&words[..], port)
 }
 
-fn look_in(words: &[u64], port: u8, slot: usize) -> Looked
+fn look_in(words: &[u64], port: u8, slot: usize) -> Result<Option<Record>, Refusal>
     requires { length words.now ≡ all_words }
     ensures { result ≡ looked_at words.now port slot }
 {
     if !refusal::is_port(port) {
-        return Looked::Refused(Refusal::Port);
+        return Err(Refusal::Port);
     }
     let b = crate::start(port);
-    Looked::Slot(slots::slot(&words[b..b + slots::WORDS], slot))
+    Ok(slots::slot(&words[b..b + slots::WORDS], slot))
 }
 
 // The record in a port's slot, if it ever held one.
-pub fn look(words: &[u64; WORDS], port: u8, slot: usize) -> Looked
+pub fn look(words: &[u64; WORDS], port: u8, slot: usize) -> Result<Option<Record>, Refusal>
     ensures { result ≡ looked_at words.now port slot }
 {
     look_in(&words[..], port, slot)

@@ -10,10 +10,10 @@ ghost use Rattle.ports.specs.Intake.{grandmaster_of, notice_of, judged_of, admit
 ghost use Rattle.ports.specs.Words.{all_words};
 
 use crate::WORDS;
-use message::announce::{Announced, Heard};
+use message::announce::Heard;
 use rank::{Grandmaster, PortIdentity};
-use refusal::{Outcome, Refusal};
-use senders::{Notice, Plan};
+use refusal::Refusal;
+use senders::Notice;
 
 // What an Announce is judged by: our domain and clockIdentity, and the magic of White Rabbit's TLVs.
 #[derive(Clone, Copy)]
@@ -21,13 +21,6 @@ pub struct Settings {
     pub domain: u8,
     pub clock: u64,
     pub magic: u16,
-}
-
-// What the port's records are asked about, or why they are not.
-#[derive(Clone, Copy)]
-pub enum Admitted {
-    Refused(Refusal),
-    Notice(Notice),
 }
 
 // What is kept of an Announce.
@@ -57,31 +50,31 @@ fn notice(h: Heard) -> Notice
 }
 
 // 9 where the domain is another, 10 where the sender is our own clock.
-fn judge(h: Heard, set: Settings) -> Admitted
+fn judge(h: Heard, set: Settings) -> Result<Notice, Refusal>
     ensures { result ≡ judged_of set h }
 {
     let header = h.header;
     let source = header.source;
     if header.domain != set.domain {
-        return Admitted::Refused(Refusal::Domain);
+        return Err(Refusal::Domain);
     }
     if source.clock == set.clock {
-        return Admitted::Refused(Refusal::Own);
+        return Err(Refusal::Own);
     }
-    Admitted::Notice(notice(h))
+    Ok(notice(h))
 }
 
 // All that is asked before the port's records are looked at.
-fn admit(port: u8, s: &[u8], set: Settings) -> Admitted
+fn admit(port: u8, s: &[u8], set: Settings) -> Result<Notice, Refusal>
     ensures { result ≡ admitted_of set port s.now }
 {
     if !refusal::is_port(port) {
-        return Admitted::Refused(Refusal::Port);
+        return Err(Refusal::Port);
     }
     let read = message::announce::read_announce(s, set.magic);
     match read {
-        Announced::Refused(x) => Admitted::Refused(x),
-        Announced::Whole(h) => judge(h, set),
+        Err(x) => Err(x),
+        Ok(h) => judge(h, set),
     }
 }
 
@@ -95,31 +88,31 @@ fn grade_at(s: &[u8]) -> u64
 
 // Takes a notice into the words of its port, or refuses it. What is only kept is read where it is written: read before the
 // slots are searched, it would be put aside and fetched again.
-fn enter(ws: &mut [u64], t: u64, a: Notice, s: &[u8]) -> Outcome
+fn enter(ws: &mut [u64], t: u64, a: Notice, s: &[u8]) -> Result<(), Refusal>
     requires ws_len { (length ws.old ≡ port_words) × (64 ≤ length s.now) }
     requires grandmaster_value { (a.grandmaster ≡ grandmaster_of (announce_of s.now)) × (a.steps ≡ (announce_of s.now).steps) }
     ensures { (result ≡ outcome_of (plan_of (held.port_of ws.old) t a)) × (ws.new ≡ words_after ws.old t (plan_of (held.port_of ws.old) t a)) }
 {
     let p = slots::plan(ws, t, a);
     match p {
-        Plan::Refuse(x) => Outcome::Refused(x),
-        Plan::Put(i, r) => {
+        Err(x) => Err(x),
+        Ok((i, r)) => {
             let identity = octets::held::u64_at(s, 53);
             let grade = grade_at(s);
             slots::put(ws, i, t, r, identity, grade);
-            Outcome::Done
+            Ok(())
         }
     }
 }
 
-fn take_in(words: &mut [u64], port: u8, t: u64, s: &[u8], set: Settings) -> Outcome
+fn take_in(words: &mut [u64], port: u8, t: u64, s: &[u8], set: Settings) -> Result<(), Refusal>
     requires { length words.old ≡ all_words }
     ensures { (result ≡ outcome_of (plan_at set words.old port t s.now)) × (words.new ≡ state_after words.old port t (plan_at set words.old port t s.now)) }
 {
     let admitted = admit(port, s, set);
     match admitted {
-        Admitted::Refused(x) => Outcome::Refused(x),
-        Admitted::Notice(a) => {
+        Err(x) => Err(x),
+        Ok(a) => {
             let b = crate::start(port);
             enter(&mut words[b..b + slots::WORDS], t, a, s)
         }
@@ -127,7 +120,7 @@ fn take_in(words: &mut [u64], port: u8, t: u64, s: &[u8], set: Settings) -> Outc
 }
 
 // Takes the Announce in `s` on a port at `t`, or refuses it.
-pub fn take(words: &mut [u64; WORDS], port: u8, t: u64, s: &[u8], set: Settings) -> Outcome
+pub fn take(words: &mut [u64; WORDS], port: u8, t: u64, s: &[u8], set: Settings) -> Result<(), Refusal>
     ensures { (result ≡ outcome_of (plan_at set words.old port t s.now)) × (words.new ≡ state_after words.old port t (plan_at set words.old port t s.now)) }
 {
     take_in(&mut words[..], port, t, s, set)

@@ -5,7 +5,7 @@ ghost use Rattle.ports.specs.Interval.{in_range, interval_of, set_by, after_by, 
 ghost use Rattle.ports.specs.Words.{all_words};
 
 use crate::WORDS;
-use refusal::{Outcome, Refusal};
+use refusal::Refusal;
 
 // Whether k, in two's complement, is from -3 to 4.
 fn in_range(e: u8) -> bool
@@ -25,23 +25,23 @@ pub fn interval_of(e: u64) -> i8
     octets::signed8(m + 248)
 }
 
-fn set_in(words: &mut [u64], port: u8, e: u8) -> Outcome
+fn set_in(words: &mut [u64], port: u8, e: u8) -> Result<(), Refusal>
     requires { length words.old ≡ all_words }
     ensures { (result ≡ set_by port (in_range e)) × (words.new ≡ after_by words.old port (in_range e) (e % 8)) }
 {
     if !refusal::is_port(port) {
-        return Outcome::Refused(Refusal::Port);
+        return Err(Refusal::Port);
     }
     if !in_range(e) {
-        return Outcome::Refused(Refusal::Field);
+        return Err(Refusal::Field);
     }
     let b = crate::start(port);
     slots::set_exponent(&mut words[b..b + slots::WORDS], (e % 8) as u64);
-    Outcome::Done
+    Ok(())
 }
 
 // Sets a port's interval, or refuses it.
-pub fn set_interval(words: &mut [u64; WORDS], port: u8, k: i8) -> Outcome
+pub fn set_interval(words: &mut [u64; WORDS], port: u8, k: i8) -> Result<(), Refusal>
     ensures { (result ≡ interval_set port k) × (words.new ≡ interval_after words.old port k) }
 {
     set_in(&mut words[..], port, octets::bits8(k))

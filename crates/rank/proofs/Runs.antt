@@ -1,4 +1,5 @@
 -- Ranking a run one candidate at a time gives what ranking it whole is defined to give.
+use Rattle.std.specs.Prelude.{Ok}
 use Prim.Native.Nat.{ℕ, suc, ◌+◌, ◌≤◌, ◌<◌}
 use mathlib.Core.Path.{◌≡◌, refl, ap, ◌∙◌}
 use mathlib.Core.List.{List, [], ◌∷◌, ◌++◌, append-nil}
@@ -10,7 +11,6 @@ use lib.Seq.{take-length, drop-cons, get_or-take}
 use Rattle.refusal.specs.Choice.{pick, refuse}
 use Rattle.refusal.specs.declared.Refusal.{Refusal}
 use Rattle.refusal.specs.declared.Refusal.TheVariants.{Port}
-use Rattle.refusal.specs.declared.Outcome.TheVariants.{Done}
 use Rattle.rank.specs.declared.Candidate.{Candidate}
 use Rattle.rank.specs.declared.Ranked.{Ranked}
 use Rattle.rank.specs.declared.Ranking.{Ranking}
@@ -38,7 +38,7 @@ scan_rank (y ∷ ys) s =
     cases (is_port y.port)
     (λ e.
     simp e
-    (ap (λ (r : Ranked). scan (record { outcome = Done; list = r }) ys) (insert_rank y s)
+    (ap (λ (r : Ranked). scan (record { outcome = (Ok tt); list = r }) ys) (insert_rank y s)
     ∙ scan_rank ys (y ∷ s)
     ∙ ap (λ (l : List Candidate). pick (all_valid ys) (done_of l) (refused_of Port)) (rank_middle earlier_of receiver_of ordered 4 ys y s)))
     (λ e. simp e (stuck Port ys))

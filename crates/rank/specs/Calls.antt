@@ -1,10 +1,8 @@
 -- What ranking and merging answer (01, "Numbers that refuse" and "Comparing and ranking").
-use Rattle.std.specs.Prelude.{ℕ, List, [], ◌++◌, not, ◌&&◌, ltb, length}
+use Rattle.std.specs.Prelude.{ℕ, List, [], ◌++◌, not, ◌&&◌, ltb, length, Result, Ok, Err}
 use Rattle.refusal.specs.Choice.{pick, refuse}
 use Rattle.refusal.specs.declared.Refusal.{Refusal}
 use Rattle.refusal.specs.declared.Refusal.TheVariants.{Many, Port, Unranked}
-use Rattle.refusal.specs.declared.Outcome.{Outcome}
-use Rattle.refusal.specs.declared.Outcome.TheVariants.{Done, Refused}
 use Rattle.rank.specs.declared.Candidate.{Candidate}
 use Rattle.rank.specs.declared.Ranked.{Ranked}
 use Rattle.rank.specs.declared.Ranking.{Ranking}
@@ -12,11 +10,11 @@ use Rattle.rank.specs.Ranked.{is_port, all_valid, rank_of, pack, unpack, insert_
 
 -- "A refusal returns its number alone.": the list beside it is empty
 abbrev pub refused_of : Refusal → Ranking
-refused_of x = record { outcome = Refused x; list = pack [] }
+refused_of x = record { outcome = Err x; list = pack [] }
 
 -- the work is done
 abbrev pub done_of : List Candidate → Ranking
-done_of l = record { outcome = Done; list = pack l }
+done_of l = record { outcome = (Ok tt); list = pack l }
 
 -- "Ranking: 17, 8."
 abbrev pub ranking_of : List Candidate → Ranking
@@ -38,11 +36,11 @@ abbrev pub start_of : ℕ → Ranking
 start_of n = refuse (ltb 288 n) (refused_of Many) (done_of [])
 
 abbrev pub add_of : Ranked → Candidate → Ranking
-add_of r c = refuse (not (is_port c.port)) (refused_of Port) (record { outcome = Done; list = insert_of r c })
+add_of r c = refuse (not (is_port c.port)) (refused_of Port) (record { outcome = (Ok tt); list = insert_of r c })
 
-abbrev pub step_from : Outcome → Ranking → Candidate → Ranking
-step_from Done s c = add_of s.list c
-step_from (Refused x) s c = s
+abbrev pub step_from : Result (Unit {0}) Refusal → Ranking → Candidate → Ranking
+step_from (Ok tt) s c = add_of s.list c
+step_from (Err x) s c = s
 
 abbrev pub step_of : Ranking → Candidate → Ranking
 step_of s c = step_from s.outcome s c

@@ -11,7 +11,7 @@ ghost use Rattle.rank.specs.Order.{identity_of, grade_of, lex, same, earlier_of}
 ghost use Rattle.rank.specs.Ranked.{blank_of, pack, unpack, left_out, sink_of, insert_of, insert_all, holds_of, is_ranked};
 ghost use Rattle.rank.specs.Calls.{refused_of, merge_of, start_of, turns_of, step_of, ranking_of};
 
-use refusal::{Outcome, Refusal};
+use refusal::Refusal;
 
 // A ranked list is cut after so many.
 const PLACES: usize = 4;
@@ -292,7 +292,7 @@ pub fn is_ranked(r: Ranked) -> bool
 // What ranking and merging answer: done and the list, or the refusal and an empty list.
 #[derive(Clone, Copy)]
 pub struct Ranking {
-    pub outcome: Outcome,
+    pub outcome: Result<(), Refusal>,
     pub list: Ranked,
 }
 
@@ -301,7 +301,7 @@ fn refused(x: Refusal) -> Ranking
     ensures { result ≡ refused_of x }
 {
     Ranking {
-        outcome: Outcome::Refused(x),
+        outcome: Err(x),
         list: empty(),
     }
 }
@@ -315,7 +315,7 @@ pub fn merge(a: Ranked, b: Ranked) -> Ranking
     }
     let list = insert_all(tidy(a), b);
     Ranking {
-        outcome: Outcome::Done,
+        outcome: Ok(()),
         list,
     }
 }
@@ -328,7 +328,7 @@ fn start(n: usize) -> Ranking
         return refused(Refusal::Many);
     }
     Ranking {
-        outcome: Outcome::Done,
+        outcome: Ok(()),
         list: empty(),
     }
 }
@@ -338,7 +338,7 @@ fn step(s: Ranking, c: Candidate) -> Ranking
     ensures { result ≡ step_of s c }
 {
     let outcome = s.outcome;
-    let Outcome::Done = outcome else {
+    let Ok(()) = outcome else {
         return s;
     };
     let p = c.port;

@@ -1,4 +1,5 @@
 -- A message is refused with 8, 19, 11 and 17 exactly when 02, (iv), says so, in this order, and a refused one changes nothing.
+use Rattle.std.specs.Prelude.{Result, Ok, Err}
 use Prim.Native.Nat.{ℕ, ◌+◌, ◌≤◌}
 use mathlib.Core.Path.{◌≡◌, ◌∙◌, refl, sym, ap, subst}
 use mathlib.Core.List.{List}
@@ -13,20 +14,17 @@ use Rattle.refusal.specs.Refusal.{code_of}
 use Rattle.refusal.specs.Limits.{is_port}
 use Rattle.refusal.specs.declared.Refusal.{Refusal}
 use Rattle.refusal.specs.declared.Refusal.TheVariants.{Port, Long, Backward, Many}
-use Rattle.refusal.specs.declared.Outcome.{Outcome}
-use Rattle.refusal.specs.declared.Outcome.TheVariants as outcome
 use Rattle.refusal.proofs.Choice.{goes_on, passed, no_refusal}
 use Rattle.block.specs.Layout.{block_octets, records_at, head_octets, longest, Entry}
 use Rattle.recording.specs.Recording.{next_of, last_of, has_place, fits, check_by, record_check, told_by, answer_by, recorded_of, open_after, words_after, out_after, closes}
 use Rattle.recording.specs.Refusing.{recorded_code, last_number, Taken, RecordWhen, no_port, too_long, backward, many, taken}
-use Rattle.recording.specs.declared.Recorded.TheVariants as recorded
 
 module _ (ws : List ℕ) (e : Entry) where
   -- which line it is, by the four tests
   line : (p : Bool) → is_port e.port ≡ p → (l : Bool) → ltb longest (length e.message) ≡ l
       → (b : Bool) → ltb e.time (last_of ws) ≡ b → (f : Bool) → fits ws e ≡ f → (m : Bool) → ltb last_number (next_of ws) ≡ m
-      → RecordWhen ws e (code_of (refuse (not p) (outcome.Refused Port)
-      (refuse l (outcome.Refused Long) (refuse b (outcome.Refused Backward) (refuse (not f && m) (outcome.Refused Many) outcome.Done)))))
+      → RecordWhen ws e (code_of (refuse (not p) (Err Port)
+      (refuse l (Err Long) (refuse b (Err Backward) (refuse (not f && m) (Err Many) (Ok tt))))))
   unfolding refuse
   line false p l el b eb f ef m em = no_port p
   line true p true el b eb f ef m em = too_long p (ltb-true _ _ el)
@@ -47,7 +45,7 @@ module _ (ws : List ℕ) (e : Entry) where
   placed (inl f) = rw f
   placed (inr m) = rw (le-ltb last_number (next_of ws) m) (and-false (not (fits ws e)))
 
-  pub is_done_lem : Taken ws e → record_check ws e ≡ outcome.Done
+  pub is_done_lem : Taken ws e → record_check ws e ≡ Ok tt
   unfolding check_by
   is_done_lem t =
       goes_on _ _ _ (rw t.port) ∙ goes_on _ _ _ (le-ltb _ _ t.short) ∙ goes_on _ _ _ (le-ltb _ _ t.later)
@@ -63,10 +61,10 @@ module _ (ws : List ℕ) (e : Entry) where
   by_line (taken t) = ap code_of (is_done_lem t)
 
   -- the answer's number is that of the checks
-  same_number : (o : Outcome) (closed : Bool) → recorded_code (answer_by o (told_by closed)) ≡ code_of o
-  same_number (outcome.Refused x) closed = refl
-  same_number outcome.Done true = refl
-  same_number outcome.Done false = refl
+  same_number : (o : Result (Unit {0}) Refusal) (closed : Bool) → recorded_code (answer_by o (told_by closed)) ≡ code_of o
+  same_number (Err x) closed = refl
+  same_number (Ok tt) true = refl
+  same_number (Ok tt) false = refl
 
   -- THE NUMBER GIVEN: its line holds
   pub recorded_told : RecordWhen ws e (recorded_code (recorded_of ws e))
@@ -81,7 +79,7 @@ module _ (ws : List ℕ) (e : Entry) where
   many_passed true m h = inl refl
   many_passed false m h = inr h
 
-  pub done : record_check ws e ≡ outcome.Done → Taken ws e
+  pub done : record_check ws e ≡ Ok tt → Taken ws e
   unfolding check_by
   done h =
       let a = passed _ _ _ _ (no_refusal Port) h in
@@ -96,7 +94,7 @@ module _ (ws : List ℕ) (e : Entry) where
       }
 
   -- a new block that is opened for it has a number
-  pub has_number : record_check ws e ≡ outcome.Done → fits ws e ≡ false → next_of ws ≤ last_number
+  pub has_number : record_check ws e ≡ Ok tt → fits ws e ≡ false → next_of ws ≤ last_number
   has_number h f = ⊎_elim (λ g. clash g f) (λ l. l) (done h).place
 
 -- what has its place stands behind the head, and ends inside the block
@@ -107,11 +105,11 @@ bounds end n h =
 
 -- A REFUSED MESSAGE CHANGES NOTHING
 module _ (ws : List ℕ) (e : Entry) (x : Refusal) where
-  by_check : (o : Outcome) (closed : Bool) → answer_by o (told_by closed) ≡ recorded.Refused x → o ≡ outcome.Refused x
-  by_check (outcome.Refused y) closed h = cc
-  by_check outcome.Done true h = cc
-  by_check outcome.Done false h = cc
+  by_check : (o : Result (Unit {0}) Refusal) (closed : Bool) → answer_by o (told_by closed) ≡ Err x → o ≡ Err x
+  by_check (Err y) closed h = cc
+  by_check (Ok tt) true h = cc
+  by_check (Ok tt) false h = cc
 
-  pub refused_nothing : (opened out : List ℕ) → recorded_of ws e ≡ recorded.Refused x
+  pub refused_nothing : (opened out : List ℕ) → recorded_of ws e ≡ Err x
       → (open_after opened ws e ≡ opened) × (words_after ws e ≡ ws) × (out_after opened ws e out ≡ out)
   refused_nothing opened out h = let c = by_check (record_check ws e) (closes ws e) h in (rw c, rw c, rw c)

@@ -2,16 +2,13 @@
 -- message over 485 octets, then 11 for a time below the last recorded one on any port, then 17 past block number 4,294,967,295").
 -- A recording is an open block and three words: the number of the next block, the last recorded time, and where in the open block the next
 -- record goes. Words of zero are a fresh recording: its first block is 0, and no block is open.
-use Rattle.std.specs.Prelude.{ℕ, suc, ◌+◌, List, [], ◌∷◌, Bool, not, ◌&&◌, leb, ltb, get_or, length}
+use Rattle.std.specs.Prelude.{ℕ, suc, ◌+◌, List, [], ◌∷◌, Bool, not, ◌&&◌, leb, ltb, get_or, length, Result, Ok, Err}
 use Rattle.refusal.specs.Choice.{pick, refuse}
 use Rattle.refusal.specs.Limits.{is_port}
 use Rattle.refusal.specs.declared.Refusal.TheVariants.{Port, Long, Backward, Many}
-use Rattle.refusal.specs.declared.Outcome.{Outcome}
-use Rattle.refusal.specs.declared.Outcome.TheVariants as outcome
 use Rattle.block.specs.Layout.{block_octets, records_at, head_octets, longest, Entry}
 use Rattle.block.specs.Making.{opened_of, added_to, sealed}
-use Rattle.recording.specs.declared.Recorded.{Recorded}
-use Rattle.recording.specs.declared.Recorded.TheVariants.{Refused, Kept, Closed}
+use Rattle.refusal.specs.declared.Refusal.{Refusal}
 
 -- a message with its time and port
 abbrev pub entry_of : ℕ → ℕ → List ℕ → Entry
@@ -39,15 +36,15 @@ abbrev pub fits : List ℕ → Entry → Bool
 fits ws e = has_place (end_of ws) (length e.message)
 
 -- "8, then 19 .., then 11 .., then 17": 17 only where the record needs a new block
-unfoldable pub check_by : ℕ → ℕ → ℕ → ℕ → ℕ → ℕ → Outcome
+unfoldable pub check_by : ℕ → ℕ → ℕ → ℕ → ℕ → ℕ → Result (Unit {0}) Refusal
 check_by next last end port t n =
-    refuse (not (is_port port)) (outcome.Refused Port)
-    (refuse (ltb longest n) (outcome.Refused Long)
-    (refuse (ltb t last) (outcome.Refused Backward)
-    (refuse (not (has_place end n) && ltb 4294967295 next) (outcome.Refused Many)
-    outcome.Done)))
+    refuse (not (is_port port)) (Err Port)
+    (refuse (ltb longest n) (Err Long)
+    (refuse (ltb t last) (Err Backward)
+    (refuse (not (has_place end n) && ltb 4294967295 next) (Err Many)
+    (Ok tt))))
 
-abbrev pub record_check : List ℕ → Entry → Outcome
+abbrev pub record_check : List ℕ → Entry → Result (Unit {0}) Refusal
 record_check ws e = check_by (next_of ws) (last_of ws) (end_of ws) e.port e.time (length e.message)
 
 -- the open block, the words, and the block that comes out, after a record that is taken
@@ -66,28 +63,28 @@ words_with ws e = words_by ws e.time (length e.message)
 abbrev pub closes : List ℕ → Entry → Bool
 closes ws e = not (fits ws e) && is_open ws
 
-abbrev pub told_by : Bool → Recorded
-told_by closed = pick closed Closed Kept
+abbrev pub told_by : Bool → Result Bool Refusal
+told_by closed = pick closed (Ok true) (Ok false)
 
 abbrev pub out_by : Bool → List ℕ → List ℕ → List ℕ
 out_by closed opened out = pick closed (sealed opened) out
 
-abbrev pub told_of : List ℕ → Entry → Recorded
+abbrev pub told_of : List ℕ → Entry → Result Bool Refusal
 told_of ws e = told_by (closes ws e)
 
 abbrev pub out_with : List ℕ → List ℕ → Entry → List ℕ → List ℕ
 out_with opened ws e out = out_by (closes ws e) opened out
 
 -- what recording answers, and all that is lent to it afterwards: a refusal changes nothing
-abbrev pub answer_by : Outcome → Recorded → Recorded
-answer_by (outcome.Refused x) told = Refused x
-answer_by outcome.Done told = told
+abbrev pub answer_by : Result (Unit {0}) Refusal → Result Bool Refusal → Result Bool Refusal
+answer_by (Err x) told = Err x
+answer_by (Ok tt) told = told
 
-abbrev pub lent_by : Outcome → List ℕ → List ℕ → List ℕ
-lent_by (outcome.Refused x) before after = before
-lent_by outcome.Done before after = after
+abbrev pub lent_by : Result (Unit {0}) Refusal → List ℕ → List ℕ → List ℕ
+lent_by (Err x) before after = before
+lent_by (Ok tt) before after = after
 
-abbrev pub recorded_of : List ℕ → Entry → Recorded
+abbrev pub recorded_of : List ℕ → Entry → Result Bool Refusal
 recorded_of ws e = answer_by (record_check ws e) (told_of ws e)
 
 abbrev pub open_after : List ℕ → List ℕ → Entry → List ℕ

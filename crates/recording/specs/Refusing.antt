@@ -1,19 +1,18 @@
 -- When recording refuses, and with which number (02, (iv): "Refusals: in recording 8, then 19 LONG, message over 485 octets, then 11 for a
 -- time below the last recorded one on any port, then 17 past block number 4,294,967,295"), 0 where the message is recorded. In
 -- proofs/Refusing.antt the answer has its line here, and a line that holds is the answer.
-use Rattle.std.specs.Prelude.{ℕ, ◌≤◌, ◌<◌, ◌≡◌, List, true, false, ◌⊎◌, length}
+use Rattle.std.specs.Prelude.{ℕ, ◌≤◌, ◌<◌, ◌≡◌, List, true, false, ◌⊎◌, length, Result, Ok, Err, Bool}
 use Rattle.refusal.specs.Refusal.{answer_of}
 use Rattle.refusal.specs.Limits.{is_port}
 use Rattle.block.specs.Layout.{longest, Entry}
 use Rattle.recording.specs.Recording.{next_of, last_of, fits}
-use Rattle.recording.specs.declared.Recorded.{Recorded}
-use Rattle.recording.specs.declared.Recorded.TheVariants.{Refused, Kept, Closed}
+use Rattle.refusal.specs.declared.Refusal.{Refusal}
 
 -- this page's number of the answer
-abbrev pub recorded_code : Recorded → ℕ
-recorded_code (Refused x) = answer_of x
-recorded_code Kept = 0
-recorded_code Closed = 0
+abbrev pub recorded_code : Result Bool Refusal → ℕ
+recorded_code (Err x) = answer_of x
+recorded_code (Ok false) = 0
+recorded_code (Ok true) = 0
 
 -- the last number of a block
 abbrev pub last_number : ℕ

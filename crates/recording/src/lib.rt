@@ -6,23 +6,14 @@
 // Refused in this order: 8 (a port outside 1 to 18), 19 (a message of more than 485 octets), 11 (a time below the last recorded one, on whatever port),
 // 17 (a new block past number 4,294,967,295). Then nothing that was lent has changed. What is recorded is not looked into.
 ghost use Rattle.std.specs.Prelude.{◌≡◌, true, ◌⊎◌, ◌≤◌, leb, length};
-ghost use Rattle.refusal.specs.declared.Outcome.TheVariants.{Done};
 ghost use Rattle.block.specs.Layout.{records_at, longest};
 ghost use Rattle.recording.specs.Recording.{entry_of, next_of, end_of, has_place, check_by, record_check, told_of, open_with, words_by, words_with, out_with, recorded_of, open_after, words_after, out_after, is_open, finished, told_by, out_by};
 ghost use Rattle.recording.specs.Refusing.{last_number};
 
-use refusal::{Outcome, Refusal};
+use refusal::Refusal;
 
 // The words: the number of the next block, the last recorded time, and where in the open block the next record goes, 0 where none is open.
 pub const WORDS: usize = 3;
-
-// What became of a message: refused, in the open block, or in a new one while the one before it came out.
-#[derive(Clone, Copy)]
-pub enum Recorded {
-    Refused(Refusal),
-    Kept,
-    Closed,
-}
 
 // The last number that a block can have.
 const LAST: u64 = 4_294_967_295;
@@ -44,22 +35,22 @@ fn has_place(end: u64, n: usize) -> bool
 }
 
 // The refusals, in their order.
-fn check(next: u64, last: u64, end: u64, port: u8, t: u64, n: usize) -> Outcome
+fn check(next: u64, last: u64, end: u64, port: u8, t: u64, n: usize) -> Result<(), Refusal>
     ensures { result ≡ check_by next last end port t n }
 {
     if !refusal::is_port(port) {
-        return Outcome::Refused(Refusal::Port);
+        return Err(Refusal::Port);
     }
     if block::LONGEST < n {
-        return Outcome::Refused(Refusal::Long);
+        return Err(Refusal::Long);
     }
     if t < last {
-        return Outcome::Refused(Refusal::Backward);
+        return Err(Refusal::Backward);
     }
     if !has_place(end, n) & (LAST < next) {
-        return Outcome::Refused(Refusal::Many);
+        return Err(Refusal::Many);
     }
-    Outcome::Done
+    Ok(())
 }
 
 // The words move on behind a message of n octets at `t` that is not refused.
@@ -78,15 +69,15 @@ fn advance(words: &mut [u64; WORDS], t: u64, n: usize)
 }
 
 // Writes the open block closed, where one is open.
-fn close(opened: &[u8; block::OCTETS], end: u64, out: &mut [u8; block::OCTETS]) -> Recorded
+fn close(opened: &[u8; block::OCTETS], end: u64, out: &mut [u8; block::OCTETS]) -> Result<bool, Refusal>
     ensures answer { result ≡ told_by (leb records_at end) }
     ensures octets { out.new ≡ out_by (leb records_at end) opened.now out.old }
 {
     if !is_open(end) {
-        return Recorded::Kept;
+        return Ok(false);
     }
     block::making::seal(opened, out);
-    Recorded::Closed
+    Ok(true)
 }
 
 // A message that is not refused goes behind those of the open block, or it closes that and opens the next.
@@ -97,8 +88,8 @@ fn put(
     t: u64,
     message: &[u8],
     out: &mut [u8; block::OCTETS],
-) -> Recorded
-    requires { record_check words.old (entry_of t port message.now) ≡ Done }
+) -> Result<bool, Refusal>
+    requires { record_check words.old (entry_of t port message.now) ≡ Ok tt }
     ensures answer { result ≡ told_of words.old (entry_of t port message.now) }
     ensures block { opened.new ≡ open_with opened.old words.old (entry_of t port message.now) }
     ensures words { words.new ≡ words_with words.old (entry_of t port message.now) }
@@ -109,7 +100,7 @@ fn put(
     advance(words, t, message.len());
     if has_place(end, message.len()) {
         block::making::add(&mut opened[..], end as usize, t, port, message);
-        return Recorded::Kept;
+        return Ok(false);
     }
     let told = close(opened, end, out);
     block::making::open(opened, next as u32, t);
@@ -118,16 +109,16 @@ fn put(
 }
 
 // What recording a message would answer, and the words as it would leave them; no octet is written.
-pub fn foresee(words: &mut [u64; WORDS], port: u8, t: u64, message: &[u8]) -> Outcome
+pub fn foresee(words: &mut [u64; WORDS], port: u8, t: u64, message: &[u8]) -> Result<(), Refusal>
     ensures answer { result ≡ record_check words.old (entry_of t port message.now) }
     ensures words { words.new ≡ words_after words.old (entry_of t port message.now) }
 {
     let n = message.len();
     match check(words[0], words[1], words[2], port, t, n) {
-        Outcome::Refused(x) => Outcome::Refused(x),
-        Outcome::Done => {
+        Err(x) => Err(x),
+        Ok(()) => {
             advance(words, t, n);
-            Outcome::Done
+            Ok(())
         }
     }
 }
@@ -140,15 +131,15 @@ pub fn record(
     t: u64,
     message: &[u8],
     out: &mut [u8; block::OCTETS],
-) -> Recorded
+) -> Result<bool, Refusal>
     ensures answer { result ≡ recorded_of words.old (entry_of t port message.now) }
     ensures block { opened.new ≡ open_after opened.old words.old (entry_of t port message.now) }
     ensures words { words.new ≡ words_after words.old (entry_of t port message.now) }
     ensures octets { out.new ≡ out_after opened.old words.old (entry_of t port message.now) out.old }
 {
     match check(words[0], words[1], words[2], port, t, message.len()) {
-        Outcome::Refused(x) => Recorded::Refused(x),
-        Outcome::Done => put(opened, words, port, t, message, out),
+        Err(x) => Err(x),
+        Ok(()) => put(opened, words, port, t, message, out),
     }
 }
 

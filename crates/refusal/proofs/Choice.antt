@@ -1,4 +1,5 @@
 -- Laws of `pick` and `refuse`: a check that was passed, and what a list of checks gives.
+use Rattle.std.specs.Prelude.{Result, Ok, Err}
 use Prim.Native.Nat.{ℕ}
 use mathlib.Core.Path.{◌≡◌, ◌∙◌, refl, sym}
 use mathlib.Core.Bool.{Bool, true, false, not}
@@ -6,11 +7,10 @@ use mathlib.Core.Logic.{◌⊎◌, inl, inr}
 use native.Mathlib.Omega.{arith}
 use borrow.Author.Tests.{not-true, not-false}
 use Rattle.refusal.specs.declared.Refusal.{Refusal}
-use Rattle.refusal.specs.declared.Outcome.TheVariants.{Done, Refused}
 use Rattle.refusal.specs.Choice.{pick, refuse}
 
 -- what is refused is not done
-pub no_refusal : (x : Refusal) → Refused x ≡ Done → ⊥
+pub no_refusal : (x : Refusal) → ◌≡◌ {A = Result (Unit {0}) Refusal} (Err x) (Ok tt) → ⊥
 no_refusal x e = let z : ◌≡◌ {A = ℕ} 0 1 = cc in omega arith
 
 -- a choice between a thing and itself

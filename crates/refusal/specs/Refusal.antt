@@ -1,9 +1,7 @@
 -- The numbers that refuse (01, "Numbers that refuse"; 19 and 20 are 02's, (iv), and 21 and 22, (vi)), and the places that two of them have (02, (i)).
-use Rattle.std.specs.Prelude.{ℕ, ◌+◌, ◌*◌}
+use Rattle.std.specs.Prelude.{ℕ, ◌+◌, ◌*◌, Result, Ok, Err}
 use Rattle.refusal.specs.declared.Refusal.{Refusal}
 use Rattle.refusal.specs.declared.Refusal.TheVariants.{Short, Version, «Type», Length, Stamp, Tlv, WrBad, Port, Domain, Own, Backward, Stale, Full, Range, Unranked, Room, Many, Field, Long, Block, Pcap, Export}
-use Rattle.refusal.specs.declared.Outcome.{Outcome}
-use Rattle.refusal.specs.declared.Outcome.TheVariants.{Done, Refused}
 
 -- "| No. | Name | Given exactly when |"
 abbrev pub number_of : Refusal → ℕ
@@ -64,6 +62,6 @@ abbrev pub answer_of : Refusal → ℕ
 answer_of x = placed (number_of x) (place_of x)
 
 -- 0 where the work is done, else what the refusal returns
-abbrev pub code_of : Outcome → ℕ
-code_of Done = 0
-code_of (Refused x) = answer_of x
+abbrev pub code_of : Result (Unit {0}) Refusal → ℕ
+code_of (Ok tt) = 0
+code_of (Err x) = answer_of x

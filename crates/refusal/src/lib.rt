@@ -112,19 +112,12 @@ pub fn answer(x: Refusal) -> u64
     number(x) + 256 * place(x) as u64
 }
 
-// What a call answers that either does its work or refuses.
-#[derive(Clone, Copy)]
-pub enum Outcome {
-    Done,
-    Refused(Refusal),
-}
-
 // 0 where the work is done, else the refusal's number and place.
-pub fn code(x: Outcome) -> u64
+pub fn code(x: Result<(), Refusal>) -> u64
     ensures { result ≡ code_of x }
 {
     match x {
-        Outcome::Done => 0,
-        Outcome::Refused(y) => answer(y),
+        Ok(()) => 0,
+        Err(y) => answer(y),
     }
 }

@@ -6,9 +6,9 @@
 // without a better source.
 ghost use Rattle.std.specs.Prelude.{◌≤◌, length, IfOk};
 
+use refusal::Refusal;
 use ports::intake::Settings;
 use rank::Grandmaster;
-use refusal::Outcome;
 use std::io;
 use std::io::{BufReader, BufWriter, Read, Write};
 
@@ -44,10 +44,10 @@ enum Came {
 // A trace has no more blocks than there are numbers for them, and one turn more finds its end.
 const TURNS: u64 = 4_294_967_296 + 1;
 
-fn told_by(x: Outcome) -> Came {
+fn told_by(x: Result<(), Refusal>) -> Came {
     match x {
-        Outcome::Done => Came::Block,
-        Outcome::Refused(_) => Came::Wrong,
+        Ok(()) => Came::Block,
+        Err(_) => Came::Wrong,
     }
 }
 

@@ -1,5 +1,6 @@
 -- Writing at its edges, computed: what the contract of `write` demands at the limits and just past them, so that a writer
 -- that refuses everything, writes nothing, or answers a constant does not meet it.
+use Rattle.std.specs.Prelude.{Ok}
 use Prim.Native.Nat.{ℕ, zero, suc}
 use mathlib.Core.Path.{◌≡◌, refl}
 use mathlib.Core.List.{List, [], ◌∷◌}
@@ -14,7 +15,6 @@ use Rattle.message.specs.declared.fields.Body.TheVariants as body
 use Rattle.message.specs.declared.fields.Message.{Message}
 use Rattle.layout.specs.Layout.{identity_octets, stamp_octets, lead_octets, close_octets, message_octets}
 use Rattle.writer.specs.Writing.{stamp_fits, write_check, write_of, written_code, buffer_of}
-use Rattle.writer.specs.declared.writing.Written.TheVariants.{Octets}
 
 -- a two-step Sync in domain 1 with a correction of -1
 abbrev sync : ℕ → ℕ → ℕ → Message
@@ -45,7 +45,7 @@ unfolding buffer_of write_check refuse fault_of walk walk_by fixed_size stamp_fi
 sync_written = refl
 
 -- at the limits it is written into a buffer just large enough
-pub taken_at_the_limits : write_of 0xABCD (sync 15 281474976710655 999999999) [] (buffer 44) ≡ Octets 44
+pub taken_at_the_limits : write_of 0xABCD (sync 15 281474976710655 999999999) [] (buffer 44) ≡ Ok 44
 unfolding write_of write_check refuse fault_of walk walk_by fixed_size stamp_fits
 taken_at_the_limits = refl
 
@@ -71,7 +71,7 @@ unfolding write_of write_check refuse fault_of walk walk_by next_of be fixed_siz
 slave_present_with_data = refl
 
 -- the same under another magic is no known message
-pub another_magic : write_of 0xDEAD (sync 0 0 0) (0 ∷ 3 ∷ 0 ∷ 10 ∷ 0x08 ∷ 0 ∷ 0x30 ∷ 0xAB ∷ 0xCD ∷ 1 ∷ 0x10 ∷ 0 ∷ 0 ∷ 0 ∷ []) (buffer 58) ≡ Octets 58
+pub another_magic : write_of 0xDEAD (sync 0 0 0) (0 ∷ 3 ∷ 0 ∷ 10 ∷ 0x08 ∷ 0 ∷ 0x30 ∷ 0xAB ∷ 0xCD ∷ 1 ∷ 0x10 ∷ 0 ∷ 0 ∷ 0 ∷ []) (buffer 58) ≡ Ok 58
 unfolding write_of write_check refuse fault_of walk walk_by next_of be fixed_size stamp_fits misfit_at numbered HasForm
 another_magic = refl
 

@@ -1,5 +1,6 @@
 -- The round trip, from a message to octets and back: writing refuses with 18 and 16 exactly when 01 says, and what it writes is
 -- read as the same message with the same tail, with or without padding behind.
+use Rattle.std.specs.Prelude.{Result, Ok, Err}
 use Prim.Native.Nat.{ℕ, ◌+◌, ◌^◌}
 use mathlib.Core.Path.{◌≡◌, refl, sym, ap, subst, ◌∙◌}
 use mathlib.Core.List.{List, []}
@@ -13,26 +14,23 @@ use Rattle.refusal.specs.Choice.{refuse}
 use Rattle.refusal.specs.Refusal.{code_of}
 use Rattle.refusal.proofs.Choice.{goes_on}
 use Rattle.refusal.specs.declared.Refusal.TheVariants.{Field, Room}
-use Rattle.refusal.specs.declared.Outcome.{Outcome}
-use Rattle.refusal.specs.declared.Outcome.TheVariants.{Done, Refused}
 use Rattle.tlv.specs.Faults.{fault_of}
 use Rattle.tlv.specs.declared.walk.Fault.{Fault}
-use Rattle.tlv.specs.declared.walk.Fault.TheVariants.{Sound, Broken, Misfit}
+use Rattle.tlv.specs.declared.walk.Fault.TheVariants.{Broken, Misfit}
 use Rattle.message.specs.Reading.{check_of, by, read_of}
 use Rattle.contents.specs.Parts.{tail_in}
 use Rattle.message.specs.declared.fields.Timestamp.{Timestamp}
 use Rattle.message.specs.declared.fields.Body.{Body}
 use Rattle.message.specs.declared.fields.Body.TheVariants as body
 use Rattle.message.specs.declared.fields.Message.{Message}
-use Rattle.message.specs.declared.reading.Reading.TheVariants.{Whole}
 use Rattle.layout.specs.Layout.{size_of, message_octets}
 use Rattle.writer.specs.Writing.{stamp_fits, body_fits, write_check, write_of, written_code, buffer_of}
-use Rattle.writer.specs.declared.writing.Written.TheVariants as written
 use Rattle.writer.proofs.Allowed.{allowed}
 use Rattle.layout.proofs.Buffer.{append_rest}
 use Rattle.roundtrip.specs.Range.{MessageRange}
 use Rattle.roundtrip.specs.RoundTrip.{stamp_held, body_held, unfit, WriteWhen, no_field, no_room, fitting}
 use Rattle.roundtrip.proofs.Written.{late_stamp, written_check, written_message, written_tail, written_octets}
+use Rattle.refusal.specs.declared.Refusal.{Refusal}
 
 below : (a b : ℕ) → ltb a b ≡ not (leb b a)
 below a b = by (leb b a) refl
@@ -77,24 +75,24 @@ module _ (magic : ℕ) (m : Message) (tail : List ℕ) where
   n = size_of m.body + length tail
 
   -- the checks of writing come down to two
-  checked : (room : ℕ) → write_check magic m tail room ≡ refuse (unfit magic m tail) (Refused Field) (refuse (ltb room n) (Refused Room) Done)
+  checked : (room : ℕ) → write_check magic m tail room ≡ refuse (unfit magic m tail) (Err Field) (refuse (ltb room n) (Err Room) (Ok tt))
   unfolding write_check refuse
   checked room = cases (ltb m.header.transport 16) (body_held m.body) (leb n 65535) (late_stamp m.body) (fault_of magic tail) refl refl refl refl refl
     where
-      cases : (a f k l : Bool) (o : Fault) → ltb m.header.transport 16 ≡ a → body_held m.body ≡ f → leb n 65535 ≡ k → late_stamp m.body ≡ l
+      cases : (a f k l : Bool) (o : Result (Unit {0}) Fault) → ltb m.header.transport 16 ≡ a → body_held m.body ≡ f → leb n 65535 ≡ k → late_stamp m.body ≡ l
           → fault_of magic tail ≡ o
-          → write_check magic m tail room ≡ refuse (unfit magic m tail) (Refused Field) (refuse (ltb room n) (Refused Room) Done)
+          → write_check magic m tail room ≡ refuse (unfit magic m tail) (Err Field) (refuse (ltb room n) (Err Room) (Ok tt))
       cases false f k l o ea ef ek el eo = simp ea
       cases true false k l o ea ef ek el eo = simp (ea, stamp_split m.body, ef)
       cases true true false true o ea ef ek el eo = simp (ea, stamp_split m.body, ef, ek, el)
       cases true true false false o ea ef ek el eo = simp (ea, stamp_split m.body, ef, el, below 65535 n, ek)
       cases true true true true o ea ef ek el eo =
           simp (ea, stamp_split m.body, ef, el, ek, written_check m tail [] (leb-true n 65535 ek) ef magic)
-      cases true true true false (Broken p) ea ef ek el eo =
+      cases true true true false (Err (Broken p)) ea ef ek el eo =
           simp (ea, stamp_split m.body, ef, el, below 65535 n, ek, written_check m tail [] (leb-true n 65535 ek) ef magic, eo)
-      cases true true true false (Misfit p) ea ef ek el eo =
+      cases true true true false (Err (Misfit p)) ea ef ek el eo =
           simp (ea, stamp_split m.body, ef, el, below 65535 n, ek, written_check m tail [] (leb-true n 65535 ek) ef magic, eo)
-      cases true true true false Sound ea ef ek el eo =
+      cases true true true false (Ok tt) ea ef ek el eo =
           simp (ea, stamp_split m.body, ef, el, below 65535 n, ek, written_check m tail [] (leb-true n 65535 ek) ef magic, eo)
 
   -- the number of the answer is that of the checks
@@ -102,9 +100,9 @@ module _ (magic : ℕ) (m : Message) (tail : List ℕ) where
   unfolding write_of
   write_code out = by_code (write_check magic m tail (length out))
     where
-      by_code : (o : Outcome) → written_code (by o written.Refused (written.Octets n)) ≡ code_of o
-      by_code Done = refl
-      by_code (Refused x) = refl
+      by_code : (o : Result (Unit {0}) Refusal) → written_code (by o Err (Ok n)) ≡ code_of o
+      by_code (Ok tt) = refl
+      by_code (Err x) = refl
 
   -- A LINE THAT HOLDS: its number is given. 18 "a value to write doesn't fit its field or would be refused when read, the
   -- length would pass 65,535", then 16
@@ -127,36 +125,36 @@ module _ (magic : ℕ) (m : Message) (tail : List ℕ) where
 
 -- what a message is read as: itself, with its tail
 pub record ReadAs (magic : ℕ) (s : List ℕ) (m : Message) (tail : List ℕ) : Type 0 where
-  pub message : read_of magic s ≡ Whole m
+  pub message : read_of magic s ≡ Ok m
   pub tail_is : tail_in magic s ≡ tail
 
 -- an answer that counts octets comes of checks that were passed
-pub gave : (x : Outcome) {k l : ℕ} → by x written.Refused (written.Octets k) ≡ written.Octets l → (x ≡ Done) × (k ≡ l)
-gave Done e = (refl, cc)
-gave (Refused y) e = absurd (let z : ◌≡◌ {A = ℕ} 0 1 = cc in omega arith)
+pub gave : (x : Result (Unit {0}) Refusal) {k l : ℕ} → by x Err (Ok k) ≡ Ok l → (x ≡ Ok tt) × (k ≡ l)
+gave (Ok tt) e = (refl, cc)
+gave (Err y) e = absurd (let z : ◌≡◌ {A = ℕ} 0 1 = cc in omega arith)
 
 module _ (magic : ℕ) (m : Message) (tail : List ℕ) where
   -- reading accepts what writing allows, whatever stands behind it
-  pub accepted_back : (room : ℕ) (rest : List ℕ) → write_check magic m tail room ≡ Done → check_of magic (message_octets m tail rest) ≡ Done
+  pub accepted_back : (room : ℕ) (rest : List ℕ) → write_check magic m tail room ≡ Ok tt → check_of magic (message_octets m tail rest) ≡ Ok tt
   accepted_back room rest e =
       let a = allowed magic m tail room e in
       let f = split (body_held m.body) (late_stamp m.body) (sym (stamp_split m.body) ∙ a.stamp) in
       written_check m tail rest a.long f.0 magic ∙ rw (f.1, a.tlvs) (goes_on _ _ _ refl)
 
   -- and reads it as it was; that the fields are in range is what their types say (src/lib.rt)
-  pub read_back : MessageRange m → (room : ℕ) (rest : List ℕ) → write_check magic m tail room ≡ Done → ReadAs magic (message_octets m tail rest) m tail
+  pub read_back : MessageRange m → (room : ℕ) (rest : List ℕ) → write_check magic m tail room ≡ Ok tt → ReadAs magic (message_octets m tail rest) m tail
   unfolding read_of tail_in
   read_back r room rest e =
       let a = allowed magic m tail room e in
       let f = split (body_held m.body) (late_stamp m.body) (sym (stamp_split m.body) ∙ a.stamp) in
       let c = accepted_back room rest e in
       record {
-        message = rw c (ap Whole (written_message m tail rest a.long f.0 r));
+        message = rw c (ap Ok (written_message m tail rest a.long f.0 r));
         tail_is = rw c (written_tail m tail rest a.long);
       }
 
   -- the buffer that writing leaves is read as the message, whole, or cut to the octets that writing counts
-  pub buffer_back : MessageRange m → (out : List ℕ) (k : ℕ) → write_of magic m tail out ≡ written.Octets k
+  pub buffer_back : MessageRange m → (out : List ℕ) (k : ℕ) → write_of magic m tail out ≡ Ok k
       → ReadAs magic (buffer_of magic m tail out) m tail × ReadAs magic (take k (buffer_of magic m tail out)) m tail
   unfolding write_of buffer_of
   buffer_back r out k e =

@@ -1,5 +1,6 @@
 -- The round trip, from octets to a message and back: what reading accepts, writing accepts too, and it leaves the octets
 -- that were read, but for the reserved fields and controlField.
+use Rattle.std.specs.Prelude.{Ok, Err}
 use Prim.Native.Nat.{ℕ, ◌+◌, ◌*◌, ◌-◌, ◌/◌, ◌^◌, ◌≤◌}
 use mathlib.Core.Path.{◌≡◌, refl, sym, ap, ◌∙◌}
 use mathlib.Core.List.{List, [], ◌∷◌, ◌++◌}
@@ -16,7 +17,6 @@ use mir.ValLaws.{of_z-to_z}
 use Rattle.refusal.specs.Choice.{pick, refuse}
 use Rattle.refusal.proofs.Choice.{goes_on}
 use Rattle.refusal.specs.declared.Refusal.TheVariants.{Room}
-use Rattle.refusal.specs.declared.Outcome.TheVariants.{Done, Refused}
 use Rattle.octets.specs.Be.{be, octets_of}
 use Rattle.octets.proofs.Laws.{Octets, be_bound}
 use Rattle.stores.proofs.Spread.{spread, octets_back, spread_all}
@@ -27,7 +27,6 @@ use Rattle.message.specs.declared.fields.Body.TheVariants as body
 use Rattle.message.proofs.Laws.{Accepted, accepted, bounded, tail_length}
 use Rattle.layout.specs.Layout.{kind_of, control_of, size_of, identity_octets, stamp_octets, lead_octets, close_octets, announce_octets, header_octets, body_octets, message_octets}
 use Rattle.writer.specs.Writing.{stamp_fits, body_fits, write_check, write_of, buffer_of}
-use Rattle.writer.specs.declared.writing.Written.TheVariants as written
 use Rattle.roundtrip.specs.RoundTrip.{cleared_header, cleared}
 use Rattle.layout.proofs.Buffer.{append_rest, message_length}
 
@@ -185,7 +184,7 @@ module _ (s : List ℕ) (o : Octets s) where
         },
       )
 
-module _ (magic : ℕ) (s : List ℕ) (o : Octets s) (e : check_of magic s ≡ Done) where
+module _ (magic : ℕ) (s : List ℕ) (o : Octets s) (e : check_of magic s ≡ Ok tt) where
   abbrev t : List ℕ
   t = tail_of s
 
@@ -221,7 +220,7 @@ module _ (magic : ℕ) (s : List ℕ) (o : Octets s) (e : check_of magic s ≡ D
       ((λ i. header_octets (header_of s) (r.body i) (length_of s) (body_octets (r.body i) (drop (size_of (r.body i)) s))) ∙ r.clear)
 
   -- writing takes what was read
-  pub taken_again : (room : ℕ) → write_check magic (message_of s) t room ≡ refuse (ltb room (length_of s)) (Refused Room) Done
+  pub taken_again : (room : ℕ) → write_check magic (message_of s) t room ≡ refuse (ltb room (length_of s)) (Err Room) (Ok tt)
   unfolding write_check header_of
   taken_again room =
       let a = accepted magic s e in
@@ -234,17 +233,17 @@ module _ (magic : ℕ) (s : List ℕ) (o : Octets s) (e : check_of magic s ≡ D
   unfolding buffer_of
   rewritten =
       let b = bounded magic s e in
-      let d : write_check magic (message_of s) t (length s) ≡ Done =
+      let d : write_check magic (message_of s) t (length s) ≡ Ok tt =
       taken_again (length s) ∙ goes_on _ _ _ (le-ltb (length s) (length_of s) b.lent) in
       rw (d, size_same) octets_again
 
   -- written into any buffer that has room, they are the same up to messageLength
   pub written_again : (out : List ℕ) → length_of s ≤ length out
-      → (write_of magic (message_of s) t out ≡ written.Octets (length_of s))
+      → (write_of magic (message_of s) t out ≡ Ok (length_of s))
       × (buffer_of magic (message_of s) t out ≡ take (length_of s) (cleared s) ++ drop (length_of s) out)
   unfolding write_of buffer_of
   written_again out h =
-      let d : write_check magic (message_of s) t (length out) ≡ Done =
+      let d : write_check magic (message_of s) t (length out) ≡ Ok tt =
       taken_again (length out) ∙ goes_on _ _ _ (le-ltb (length out) (length_of s) h) in
       let m = message_of s in
       let n : length (message_octets m t []) ≡ length_of s = message_length m t ∙ size_same in

@@ -1,5 +1,6 @@
 -- Reading what was written: the checks find what writing finds, and where writing allows a message it is read again,
 -- whatever stands behind it.
+use Rattle.std.specs.Prelude.{Err}
 use Prim.Native.Nat.{ℕ, ◌+◌, ◌-◌, ◌≤◌}
 use mathlib.Core.Path.{◌≡◌, refl}
 use mathlib.Core.List.{List, [], ◌++◌}
@@ -12,7 +13,6 @@ use lib.Seq.{take-append_seam}
 use Rattle.refusal.specs.Choice.{refuse}
 use Rattle.refusal.proofs.Choice.{goes_on}
 use Rattle.refusal.specs.declared.Refusal.TheVariants.{Stamp}
-use Rattle.refusal.specs.declared.Outcome.TheVariants.{Refused}
 use Rattle.octets.specs.Be.{be}
 use Rattle.octets.proofs.Laws.{be_octets}
 use Rattle.tlv.specs.Faults.{fault_of}
@@ -91,7 +91,7 @@ module _ (m : Message) (tail rest : List ℕ) (long : size_of m.body + length ta
       rw (written_type, written_length, behind, e, take-append_seam)
 
   -- the checks come down to those of the timestamp and of the tail
-  pub written_check : body_held m.body ≡ true → (magic : ℕ) → check_of magic s ≡ refuse (late_stamp m.body) (Refused Stamp) (fault_check (size_of m.body) (fault_of magic tail))
+  pub written_check : body_held m.body ≡ true → (magic : ℕ) → check_of magic s ≡ refuse (late_stamp m.body) (Err Stamp) (fault_check (size_of m.body) (fault_of magic tail))
   unfolding check_of
   written_check f magic =
       rw (written_tail, written_version, written_type, written_length, written_stamp f, goes_on _ _ _ (le-ltb (length s) 34 (omega (arith, written_octets, least m.body))), goes_on _ _ _ (ne_eqb (size_of m.body) 0 (λ e. omega (arith, least m.body))), goes_on _ _ _ (le-ltb n (size_of m.body) (omega arith)), goes_on _ _ _ (le-ltb (length s) n (omega (arith, written_octets))))

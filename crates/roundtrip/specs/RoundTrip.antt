@@ -1,8 +1,7 @@
 -- What the theorems of the round trip speak of: the refusals 18 and 16 in 01's own words, and the octets of a message with its
 -- reserved fields and controlField as they are written.
-use Rattle.std.specs.Prelude.{ℕ, ◌+◌, ◌^◌, ◌<◌, ◌≤◌, ◌≡◌, List, [], Bool, true, false, not, ◌&&◌, eqb, ltb, leb, length, set}
+use Rattle.std.specs.Prelude.{ℕ, ◌+◌, ◌^◌, ◌<◌, ◌≤◌, ◌≡◌, List, [], Bool, true, false, not, ◌&&◌, eqb, ltb, leb, length, set, Result}
 use Rattle.refusal.specs.Choice.{pick}
-use Rattle.refusal.specs.declared.Outcome.{Outcome}
 use Rattle.message.specs.Fields.{type_of, body_of}
 use Rattle.message.specs.Reading.{check_of, by}
 use Rattle.message.specs.declared.fields.Timestamp.{Timestamp}
@@ -10,9 +9,10 @@ use Rattle.message.specs.declared.fields.Body.{Body}
 use Rattle.message.specs.declared.fields.Body.TheVariants as body
 use Rattle.message.specs.declared.fields.Message.{Message}
 use Rattle.layout.specs.Layout.{control_of, size_of, message_octets}
+use Rattle.refusal.specs.declared.Refusal.{Refusal}
 
 -- the reading checks refuse nothing
-abbrev pub is_done : Outcome → Bool
+abbrev pub is_done : Result (Unit {0}) Refusal → Bool
 is_done x = by x (λ y. false) true
 
 -- "48-bit seconds, 32-bit nanoseconds"

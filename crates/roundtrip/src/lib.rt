@@ -9,20 +9,18 @@ ghost use Rattle.message.specs.Reading.{by};
 ghost use Rattle.writer.specs.Writing.{write_check, buffer_of};
 ghost use Rattle.wr_tlvs.specs.Built.{link_octets, signaling};
 
-use contents::parts::LinkRead;
+use refusal::Refusal;
 use message::fields::{Header, Message, PortIdentity};
-use message::reading::Reading;
 use tlv::wr::LinkMessage;
-use writer::writing::Written;
 
 // A message written and read again: it comes back as it was, or with the number that refused to write it.
-pub fn again(out: &mut [u8], m: Message, tail: &[u8], magic: u16) -> Reading
-    ensures answer { result ≡ by (write_check magic m tail.now (length out.old)) Reading.Refused (Reading.Whole m) }
+pub fn again(out: &mut [u8], m: Message, tail: &[u8], magic: u16) -> Result<Message, Refusal>
+    ensures answer { result ≡ by (write_check magic m tail.now (length out.old)) Err (Ok m) }
     ensures buffer { out.new ≡ buffer_of magic m tail.now out.old }
 {
     match writer::writing::write(out, m, tail, magic) {
-        Written::Refused(x) => Reading::Refused(x),
-        Written::Octets(_) => contents::whole::read(&out[..], magic),
+        Err(x) => Err(x),
+        Ok(_) => contents::whole::read(&out[..], magic),
     }
 }
 
@@ -33,12 +31,12 @@ pub fn link_again(
     target: PortIdentity,
     x: LinkMessage,
     magic: u16,
-) -> LinkRead
-    ensures answer { result ≡ by (write_check magic (signaling header target) (link_octets magic x) (length out.old)) LinkRead.Refused (LinkRead.Message x) }
+) -> Result<Option<LinkMessage>, Refusal>
+    ensures answer { result ≡ by (write_check magic (signaling header target) (link_octets magic x) (length out.old)) Err (Ok (Some x)) }
     ensures buffer { out.new ≡ buffer_of magic (signaling header target) (link_octets magic x) out.old }
 {
     match wr_tlvs::write_link(out, header, target, x, magic) {
-        Written::Refused(y) => LinkRead::Refused(y),
-        Written::Octets(_) => contents::parts::link_message(&out[..], magic),
+        Err(y) => Err(y),
+        Ok(_) => contents::parts::link_message(&out[..], magic),
     }
 }

@@ -1,4 +1,5 @@
 -- A port's records and candidates are those of its history.
+use Rattle.std.specs.Prelude.{Some, None, Result, Ok, Err}
 use Rattle.std.proofs.Common.{◌≡◌, ℕ, zero, suc, ◌<◌, ◌≤◌, Bool, true, false, ◌&&◌, eqb, ltb, List, [], ◌∷◌, length, get_or, sym, refl, ap, ◌∙◌, subst, arith, get_or-set_other, get_or-set_same, ltb-false, ne_eqb, eqb-true, leb-true}
 use borrow.Author.Tests.{eqb-false}
 use Rattle.refusal.specs.Choice.{pick}
@@ -8,9 +9,6 @@ use Rattle.rank.proofs.Best.{cases}
 use Rattle.rank.proofs.Merging.{both}
 use Rattle.senders.specs.declared.Notice.{Notice}
 use Rattle.senders.specs.declared.Record.{Record}
-use Rattle.senders.specs.declared.Plan.{Plan}
-use Rattle.senders.specs.declared.Plan.TheVariants.{Refuse, Put}
-use Rattle.senders.specs.declared.Asked.TheVariants.{Absent, Found}
 use Rattle.senders.specs.Record.{window_of, is_of, is_live, is_qualified, fresh_of, next_of, candidate_of}
 use Rattle.senders.specs.Port.{Port, tab, empty_slot, slot_of, first, plan_of, port_after, candidate_in, Live, Single}
 use Rattle.senders.specs.History.{PortEvent, announced, interval, made_by, Receipt, accepts, is_by, last_accepted, accepted_from, has_live, since, kept_of, candidate_by}
@@ -18,6 +16,7 @@ use Rattle.laws.proofs.Bools.{clash}
 use Rattle.senders.proofs.First.{first_none, first_misses}
 use Rattle.senders.proofs.Names.{of_name, of_heard, is_of_lem, by_name, is_by_lem}
 use Rattle.senders.proofs.Intake.{plan_cases, size_kept, alone, single_kept}
+use Rattle.refusal.specs.declared.Refusal.{Refusal}
 
 -- ---- sixteen slots, and one record a sender
 empty : (n i : ℕ) → get_or (tab n (λ k. empty_slot)) i empty_slot ≡ empty_slot
@@ -79,14 +78,14 @@ module _ (p : Port) (t : ℕ) (a : Notice) (size : length p.slots ≡ 16) (singl
   abbrev heard_now : Receipt
   heard_now = record { at = t; notice = a }
 
-  abbrev past_by : Plan → PortIdentity → List Receipt
+  abbrev past_by : Result (ℕ × Record) Refusal → PortIdentity → List Receipt
   past_by q x = pick (accepts q && is_by x a) (heard_now ∷ pick (has_live x p t) (past x) []) (past x)
 
   module _ (k : ℕ) (z : Record) (inside : k < 16) (its : is_of a.sender z ≡ true)
       (others : (j : ℕ) → j < 16 → (j ≡ k → ⊥) → is_of a.sender (slot_of p j) ≡ false)
       (is : z ≡ kept_of (heard_now ∷ pick (has_live a.sender p t) (past a.sender) [])) where
     abbrev now : ℕ → Record
-    now i = slot_of (port_after p t (Put k z)) i
+    now i = slot_of (port_after p t (Ok (k, z))) i
 
     at_k : (i : ℕ) → i ≡ k → now i ≡ z
     at_k i e = ap now e ∙ get_or-set_same p.slots k z empty_slot (rw size inside)
@@ -95,17 +94,17 @@ module _ (p : Port) (t : ℕ) (a : Notice) (size : length p.slots ≡ 16) (singl
     beside i e = get_or-set_other p.slots k i z empty_slot e
 
     -- the sender's own
-    own_made : (x : PortIdentity) → a.sender ≡ x → z ≡ kept_of (past_by (Put k z) x)
+    own_made : (x : PortIdentity) → a.sender ≡ x → z ≡ kept_of (past_by (Ok (k, z)) x)
     own_made x e =
-        subst (λ (y : PortIdentity). z ≡ kept_of (past_by (Put k z) y)) e (rw (is_by_lem a.sender a refl) is)
+        subst (λ (y : PortIdentity). z ≡ kept_of (past_by (Ok (k, z)) y)) e (rw (is_by_lem a.sender a refl) is)
 
     -- another's
-    other_made : (x : PortIdentity) (i : ℕ) → i < 16 → (i ≡ k → ⊥) → is_of x (slot_of p i) ≡ true → (b : Bool) → is_by x a ≡ b → slot_of p i ≡ kept_of (past_by (Put k z) x)
+    other_made : (x : PortIdentity) (i : ℕ) → i < 16 → (i ≡ k → ⊥) → is_of x (slot_of p i) ≡ true → (b : Bool) → is_by x a ≡ b → slot_of p i ≡ kept_of (past_by (Ok (k, z)) x)
     other_made x i h n o true e =
         clash (subst (λ (y : PortIdentity). is_of y (slot_of p i) ≡ true) (sym (by_name x a e)) o) (others i h n)
     other_made x i h n o false e = rw e (made x i h o)
 
-    put_made : Made (port_after p t (Put k z)) (past_by (Put k z))
+    put_made : Made (port_after p t (Ok (k, z))) (past_by (Ok (k, z)))
     put_made x i h o =
         cases (eqb i k)
         (λ e. let f = eqb-true i k e in
@@ -159,9 +158,9 @@ latest x (announced t a ∷ older) =
 latest x (interval e ∷ older) = latest x older
 
 -- the last accepted time
-last_by : (p : Port) (t n : ℕ) (q : Plan) → p.last ≡ n → (port_after p t q).last ≡ pick (accepts q) t n
-last_by p t n (Refuse x) e = e
-last_by p t n (Put i r) e = refl
+last_by : (p : Port) (t n : ℕ) (q : Result (ℕ × Record) Refusal) → p.last ≡ n → (port_after p t q).last ≡ pick (accepts q) t n
+last_by p t n (Err x) e = e
+last_by p t n (Ok (i, r)) e = refl
 
 pub last_is : (hs : List PortEvent) → (made_by hs).last ≡ last_accepted hs
 unfolding made_by last_accepted
@@ -185,7 +184,7 @@ never_heard none = refl
 
 -- ---- a candidate was heard twice within the window
 module _ (port w t : ℕ) where
-  twice : {k l : List Receipt} → Latest k l → is_qualified w t (kept_of k) ≡ true → candidate_by port w t l ≡ Found (candidate_of port (kept_of k))
+  twice : {k l : List Receipt} → Latest k l → is_qualified w t (kept_of k) ≡ true → candidate_by port w t l ≡ Ok (Some (candidate_of port (kept_of k)))
   twice none q = clash q refl
   twice (one none) q = clash q refl
   twice (one (one h)) q = rw q
@@ -195,26 +194,26 @@ module _ (hs : List PortEvent) (port i t : ℕ) (h : i < 16) where
   w = window_of (made_by hs).e
 
   heard_twice_lem : (r : Record) → r ≡ kept_of (since r.notice.sender hs) → is_qualified w t r ≡ true
-      → candidate_by port w t (accepted_from r.notice.sender hs) ≡ Found (candidate_of port r)
+      → candidate_by port w t (accepted_from r.notice.sender hs) ≡ Ok (Some (candidate_of port r))
   heard_twice_lem r e q =
       let x = r.notice.sender in
       twice port w t (latest x hs) (subst (λ (z : Record). is_qualified w t z ≡ true) e q)
-      ∙ ap (λ (z : Record). Found (candidate_of port z)) (sym e)
+      ∙ ap (λ (z : Record). Ok (Some (candidate_of port z))) (sym e)
 
-  qualified_twice : (r : Record) → slot_of (made_by hs) i ≡ r → is_qualified w t r ≡ true → candidate_by port w t (accepted_from r.notice.sender hs) ≡ Found (candidate_of port r)
+  qualified_twice : (r : Record) → slot_of (made_by hs) i ≡ r → is_qualified w t r ≡ true → candidate_by port w t (accepted_from r.notice.sender hs) ≡ Ok (Some (candidate_of port r))
   qualified_twice r e q =
       let two : 2 ≤ r.receipts = leb-true _ _ (both _ _ (both _ _ q).0).0 in
       let own : is_of r.notice.sender r ≡ true = is_of_lem r.notice.sender r refl (ne_eqb r.receipts 0 (λ z. omega arith)) in
       heard_twice_lem r (sym e ∙ record_is hs r.notice.sender i h (ap (is_of r.notice.sender) e ∙ own)) q
 
   only_by : (c : Candidate) (r : Record) → slot_of (made_by hs) i ≡ r → (b : Bool) → is_qualified w t r ≡ b
-      → pick b (Found (candidate_of port r)) Absent ≡ Found c → candidate_by port w t (accepted_from c.sender hs) ≡ Found c
+      → pick b (Ok (Some (candidate_of port r))) (Ok None) ≡ Ok (Some c) → candidate_by port w t (accepted_from c.sender hs) ≡ Ok (Some c)
   only_by c r e false q f = absurd (let z : ◌≡◌ {A = ℕ} 0 1 = cc in omega arith)
   only_by c r e true q f =
       let same : candidate_of port r ≡ c = cc in
-      subst (λ (d : Candidate). candidate_by port w t (accepted_from d.sender hs) ≡ Found d) same (qualified_twice r e q)
+      subst (λ (d : Candidate). candidate_by port w t (accepted_from d.sender hs) ≡ Ok (Some d)) same (qualified_twice r e q)
 
   -- WHOEVER IS A CANDIDATE at t: its two latest accepted Announces lie with the older within W of t, and the last is not distant
-  pub candidate_only : (c : Candidate) → candidate_in port (made_by hs) i t ≡ Found c → candidate_by port w t (accepted_from c.sender hs) ≡ Found c
+  pub candidate_only : (c : Candidate) → candidate_in port (made_by hs) i t ≡ Ok (Some c) → candidate_by port w t (accepted_from c.sender hs) ≡ Ok (Some c)
   unfolding candidate_in
   candidate_only c f = only_by c (slot_of (made_by hs) i) refl (is_qualified w t (slot_of (made_by hs) i)) refl f

@@ -1,5 +1,6 @@
 -- What an Announce does to a port, by its cases, and what the customer is promised of it: nobody is pushed out, 13 comes
 -- exactly for a new sender among sixteen live ones, an expired place is used again, and no sender has two records.
+use Rattle.std.specs.Prelude.{Result, Ok, Err}
 use Rattle.std.proofs.Common.{◌≡◌, ℕ, ◌<◌, ◌≤◌, Bool, true, false, not, eqb, ltb, length, get_or, set, sym, refl, ap, ◌∙◌, subst, arith, length-set, get_or-set_other, get_or-set_same, ltb-false, ltb-true, eqb-true}
 use native.Mathlib.Decide.{dec_lt}
 use borrow.Author.Tests.{not-true, not-false, eqb-false}
@@ -11,40 +12,38 @@ use Rattle.refusal.specs.declared.Refusal.TheVariants.{Backward, Stale, Full}
 use Rattle.rank.specs.declared.PortIdentity.{PortIdentity}
 use Rattle.senders.specs.declared.Notice.{Notice}
 use Rattle.senders.specs.declared.Record.{Record}
-use Rattle.senders.specs.declared.Plan.{Plan}
-use Rattle.senders.specs.declared.Plan.TheVariants.{Refuse, Put}
 use Rattle.senders.specs.Record.{window_of, is_of, is_live, is_free, is_newer, fresh_of, next_of}
 use Rattle.senders.specs.Port.{Port, empty_slot, slot_of, first, sender_plan, plan_of, port_after, New, Live, AllLive, Single}
 use Rattle.senders.proofs.First.{first_misses, first_passes}
 use Rattle.senders.proofs.Names.{of_name, of_heard, is_of_lem}
 
 -- The cases of an Announce: what is refused, and what is put where.
-pub record Cases (p : Port) (t : ℕ) (a : Notice) (P : Plan → Type 0) : Type 0 where
-  pub backward : t < p.last → P (Refuse Backward)
+pub record Cases (p : Port) (t : ℕ) (a : Notice) (P : Result (ℕ × Record) Refusal → Type 0) : Type 0 where
+  pub backward : t < p.last → P (Err Backward)
   -- a live sender, newer or not
   pub renewed : (i : ℕ) → p.last ≤ t → i < 16 → is_of a.sender (slot_of p i) ≡ true → Live p t i
-      → is_newer a.sequence (slot_of p i).notice.sequence ≡ true → P (Put i (next_of (slot_of p i) t a))
+      → is_newer a.sequence (slot_of p i).notice.sequence ≡ true → P (Ok (i, next_of (slot_of p i) t a))
   pub stale : (i : ℕ) → p.last ≤ t → i < 16 → is_of a.sender (slot_of p i) ≡ true → Live p t i
-      → is_newer a.sequence (slot_of p i).notice.sequence ≡ false → P (Refuse Stale)
+      → is_newer a.sequence (slot_of p i).notice.sequence ≡ false → P (Err Stale)
   -- an expired one
   pub restarted : (i : ℕ) → p.last ≤ t → i < 16 → is_of a.sender (slot_of p i) ≡ true
-      → is_live (window_of p.e) t (slot_of p i) ≡ false → P (Put i (fresh_of t a))
+      → is_live (window_of p.e) t (slot_of p i) ≡ false → P (Ok (i, fresh_of t a))
   -- a new one, with a free slot or none
   pub placed : (j : ℕ) → p.last ≤ t → New p a → j < 16 → is_live (window_of p.e) t (slot_of p j) ≡ false
-      → ((k : ℕ) → k < j → Live p t k) → P (Put j (fresh_of t a))
-  pub full : p.last ≤ t → New p a → AllLive p t → P (Refuse Full)
+      → ((k : ℕ) → k < j → Live p t k) → P (Ok (j, fresh_of t a))
+  pub full : p.last ≤ t → New p a → AllLive p t → P (Err Full)
 
-module _ (p : Port) (t : ℕ) (a : Notice) (size : length p.slots ≡ 16) (P : Plan → Type 0) (cases : Cases p t a P) (later : p.last ≤ t) where
+module _ (p : Port) (t : ℕ) (a : Notice) (size : length p.slots ≡ 16) (P : Result (ℕ × Record) Refusal → Type 0) (cases : Cases p t a P) (later : p.last ≤ t) where
   known_case : (i : ℕ) → i < 16 → is_of a.sender (slot_of p i) ≡ true → (b c : Bool) → is_live (window_of p.e) t (slot_of p i) ≡ b
       → is_newer a.sequence (slot_of p i).notice.sequence ≡ c
-      → P (pick b (refuse (not c) (Refuse Stale) (Put i (next_of (slot_of p i) t a))) (Put i (fresh_of t a)))
+      → P (pick b (refuse (not c) (Err Stale) (Ok (i, next_of (slot_of p i) t a))) (Ok (i, fresh_of t a)))
   unfolding refuse
   known_case i h o true true l n = cases.renewed i later h o l n
   known_case i h o true false l n = cases.stale i later h o l n
   known_case i h o false c l n = cases.restarted i later h o l
 
   new_case : New p a → (j : ℕ) → first (is_free (window_of p.e) t) p.slots ≡ j → (b : Bool) → ltb j 16 ≡ b
-      → P (refuse (not b) (Refuse Full) (Put j (fresh_of t a)))
+      → P (refuse (not b) (Err Full) (Ok (j, fresh_of t a)))
   unfolding refuse
   new_case new j f true h =
       let free = is_free (window_of p.e) t in
@@ -59,8 +58,8 @@ module _ (p : Port) (t : ℕ) (a : Notice) (size : length p.slots ≡ 16) (P : P
 
   sender_case : (i : ℕ) → first (is_of a.sender) p.slots ≡ i → (b : Bool) → ltb i 16 ≡ b
       → P (pick b
-      (pick (is_live (window_of p.e) t (slot_of p i)) (refuse (not (is_newer a.sequence (slot_of p i).notice.sequence)) (Refuse Stale) (Put i (next_of (slot_of p i) t a))) (Put i (fresh_of t a)))
-      (refuse (not (ltb (first (is_free (window_of p.e) t) p.slots) 16)) (Refuse Full) (Put (first (is_free (window_of p.e) t) p.slots) (fresh_of t a))))
+      (pick (is_live (window_of p.e) t (slot_of p i)) (refuse (not (is_newer a.sequence (slot_of p i).notice.sequence)) (Err Stale) (Ok (i, next_of (slot_of p i) t a))) (Ok (i, fresh_of t a)))
+      (refuse (not (ltb (first (is_free (window_of p.e) t) p.slots) 16)) (Err Full) (Ok (first (is_free (window_of p.e) t) p.slots, fresh_of t a))))
   sender_case i f true h =
       let i<16 = ltb-true i 16 h in
       let hit : is_of a.sender (slot_of p i) ≡ true = rw f at (first_passes (is_of a.sender) empty_slot p.slots (rw (f, size) i<16)) in
@@ -70,9 +69,9 @@ module _ (p : Port) (t : ℕ) (a : Notice) (size : length p.slots ≡ 16) (P : P
       new_case (λ k g. first_misses (is_of a.sender) empty_slot p.slots k (rw f (omega arith)))
       (first (is_free (window_of p.e) t) p.slots) refl (ltb (first (is_free (window_of p.e) t) p.slots) 16) refl
 
-module _ (p : Port) (t : ℕ) (a : Notice) (size : length p.slots ≡ 16) (P : Plan → Type 0) (cases : Cases p t a P) where
+module _ (p : Port) (t : ℕ) (a : Notice) (size : length p.slots ≡ 16) (P : Result (ℕ × Record) Refusal → Type 0) (cases : Cases p t a P) where
   plan_by_lem : (b : Bool) → ltb t p.last ≡ b
-      → P (refuse b (Refuse Backward) (sender_plan (window_of p.e) t a p.slots (first (is_of a.sender) p.slots)))
+      → P (refuse b (Err Backward) (sender_plan (window_of p.e) t a p.slots (first (is_of a.sender) p.slots)))
   unfolding refuse
   plan_by_lem true h = cases.backward (ltb-true t p.last h)
   plan_by_lem false h =
@@ -86,17 +85,17 @@ module _ (p : Port) (t : ℕ) (a : Notice) (size : length p.slots ≡ 16) (P : P
 
 -- A plan that refuses: every case that puts a record is ruled out.
 module _ (p : Port) (t : ℕ) (a : Notice) (x : Refusal) (Q : Type 0) where
-  no_put : {k : ℕ} {z : Record} → Put k z ≡ Refuse x → Q
+  no_put : {k : ℕ} {z : Record} → ◌≡◌ {A = Result (ℕ × Record) Refusal} (Ok (k, z)) (Err x) → Q
   no_put {k} {z} e = absurd (let d : ◌≡◌ {A = ℕ} 0 1 = cc in omega arith)
 
-  same : {y : Refusal} → Refuse y ≡ Refuse x → y ≡ x
+  same : {y : Refusal} → ◌≡◌ {A = Result (ℕ × Record) Refusal} (Err y) (Err x) → y ≡ x
   same {y} e = cc
 
   refused_by : (t < p.last → Backward ≡ x → Q)
       → ((i : ℕ) → p.last ≤ t → i < 16 → is_of a.sender (slot_of p i) ≡ true → Live p t i
       → is_newer a.sequence (slot_of p i).notice.sequence ≡ false → Stale ≡ x → Q)
       → (p.last ≤ t → New p a → AllLive p t → Full ≡ x → Q)
-      → Cases p t a (λ q. q ≡ Refuse x → Q)
+      → Cases p t a (λ q. q ≡ Err x → Q)
   refused_by backward stale full =
       record {
         backward = λ l e. backward l (same e);
@@ -124,9 +123,9 @@ pub record IsStale (p : Port) (t : ℕ) (a : Notice) : Type 0 where
 
 module _ (p : Port) (t : ℕ) (a : Notice) (size : length p.slots ≡ 16) where
   -- "time below this port's last accepted time": 11 exactly then
-  pub backward_when : t < p.last → plan_of p t a ≡ Refuse Backward
+  pub backward_when : t < p.last → plan_of p t a ≡ Err Backward
   backward_when h =
-      plan_cases p t a size (λ q. q ≡ Refuse Backward)
+      plan_cases p t a size (λ q. q ≡ Err Backward)
       (record {
         backward = λ l. refl;
         renewed = λ i l g o v n. absurd (omega arith);
@@ -136,18 +135,18 @@ module _ (p : Port) (t : ℕ) (a : Notice) (size : length p.slots ≡ 16) where
         full = λ l n v. absurd (omega arith);
       })
 
-  pub backward_only : plan_of p t a ≡ Refuse Backward → t < p.last
+  pub backward_only : plan_of p t a ≡ Err Backward → t < p.last
   backward_only =
-      plan_cases p t a size (λ q. q ≡ Refuse Backward → t < p.last)
+      plan_cases p t a size (λ q. q ≡ Err Backward → t < p.last)
       (refused_by p t a Backward (t < p.last)
       (λ l e. l)
       (λ i l g o v n e. apart refl (sym e))
       (λ l n v e. apart refl (sym e)))
 
   -- "live record, sequenceId not newer": 12 exactly then, where no sender has two records
-  pub stale_only : plan_of p t a ≡ Refuse Stale → IsStale p t a
+  pub stale_only : plan_of p t a ≡ Err Stale → IsStale p t a
   stale_only =
-      plan_cases p t a size (λ q. q ≡ Refuse Stale → IsStale p t a)
+      plan_cases p t a size (λ q. q ≡ Err Stale → IsStale p t a)
       (refused_by p t a Stale (IsStale p t a)
       (λ l e. apart refl e)
       (λ i l g o v n e. record { at = i; inside = g; later = l; own = o; live = v; older = n })
@@ -161,10 +160,10 @@ module _ (p : Port) (t : ℕ) (a : Notice) (size : length p.slots ≡ 16) where
         let e = single a.sender s.at i s.inside g s.own o in
         clash hit (subst (λ (k : ℕ). f (slot_of p k) ≡ false) (sym e) miss)
 
-    pub stale_when : plan_of p t a ≡ Refuse Stale
+    pub stale_when : plan_of p t a ≡ Err Stale
     stale_when =
         let newer = is_newer a.sequence in
-        plan_cases p t a size (λ q. q ≡ Refuse Stale)
+        plan_cases p t a size (λ q. q ≡ Err Stale)
         (record {
           backward = λ l. let h = s.later in absurd (omega arith);
           renewed = λ i l g o v n. its (λ r. not (newer r.notice.sequence)) g o (ap not s.older) (ap not n);
@@ -175,9 +174,9 @@ module _ (p : Port) (t : ℕ) (a : Notice) (size : length p.slots ≡ 16) where
         })
 
   -- "new sender, 16 live records on the port": 13 exactly then
-  pub full_when : p.last ≤ t → New p a → AllLive p t → plan_of p t a ≡ Refuse Full
+  pub full_when : p.last ≤ t → New p a → AllLive p t → plan_of p t a ≡ Err Full
   full_when h new live =
-      plan_cases p t a size (λ q. q ≡ Refuse Full)
+      plan_cases p t a size (λ q. q ≡ Err Full)
       (record {
         backward = λ l. absurd (omega arith);
         renewed = λ i l g o v n. clash o (new i g);
@@ -187,18 +186,18 @@ module _ (p : Port) (t : ℕ) (a : Notice) (size : length p.slots ≡ 16) where
         full = λ l n v. refl;
       })
 
-  pub full_only : plan_of p t a ≡ Refuse Full → (p.last ≤ t) × New p a × AllLive p t
+  pub full_only : plan_of p t a ≡ Err Full → (p.last ≤ t) × New p a × AllLive p t
   full_only =
-      plan_cases p t a size (λ q. q ≡ Refuse Full → (p.last ≤ t) × New p a × AllLive p t)
+      plan_cases p t a size (λ q. q ≡ Err Full → (p.last ≤ t) × New p a × AllLive p t)
       (refused_by p t a Full ((p.last ≤ t) × New p a × AllLive p t)
       (λ l e. apart refl e)
       (λ i l g o v n e. apart refl e)
       (λ l n v e. (l, n, v)))
 
 -- A place that is used again: the lowest one that is empty or expired, for one receipt of the new sender.
-pub record Reused (p : Port) (t : ℕ) (a : Notice) (i : ℕ) (q : Plan) : Type 0 where
+pub record Reused (p : Port) (t : ℕ) (a : Notice) (i : ℕ) (q : Result (ℕ × Record) Refusal) : Type 0 where
   pub at : ℕ
-  pub is : q ≡ Put at (fresh_of t a)
+  pub is : q ≡ Ok (at, fresh_of t a)
   pub low : at ≤ i
   pub free : is_live (window_of p.e) t (slot_of p at) ≡ false
 
@@ -224,7 +223,7 @@ module _ (p : Port) (t : ℕ) (a : Notice) (size : length p.slots ≡ 16) where
       })
 
   other_slot : (i k : ℕ) (z : Record) (f : Record → Bool) → f (slot_of p k) ≡ true → f (slot_of p i) ≡ false
-      → slot_of (port_after p t (Put k z)) i ≡ slot_of p i
+      → slot_of (port_after p t (Ok (k, z))) i ≡ slot_of p i
   other_slot i k z f hit miss =
       get_or-set_other p.slots k i z empty_slot (λ e. clash hit (subst (λ (m : ℕ). f (slot_of p m) ≡ false) e miss))
 
@@ -285,7 +284,7 @@ module _ (p : Port) (t : ℕ) (size : length p.slots ≡ 16) (single : Single p)
   single_by x i j hi hj oi oj false false e f =
       single x i j hi hj (rw (beside (eqb-false _ _ e)) at oi) (rw (beside (eqb-false _ _ f)) at oj)
 
-  single_put : Single (port_after p t (Put k z))
+  single_put : Single (port_after p t (Ok (k, z)))
   single_put x i j hi hj oi oj = single_by x i j hi hj oi oj (eqb i k) (eqb j k) refl refl
 
 -- no other slot than its own has a record of the sender

@@ -1,5 +1,6 @@
 -- Where a port's interval is not changed: a sender restarts exactly after a gap that is longer than the window, whoever was heard
 -- twice within the window is a candidate, and 12 is given by the sender's latest accepted Announce.
+use Rattle.std.specs.Prelude.{Option, Some, None, Result, Ok, Err}
 use Rattle.std.proofs.Common.{◌≡◌, ℕ, ◌-◌, ◌<◌, ◌≤◌, Bool, true, false, not, ◌&&◌, eqb, leb, List, [], ◌∷◌, length, refl, ap, ◌∙◌, subst, arith, get_or-set_same, le-leb, leb-true}
 use borrow.Author.Tests.{not-true}
 use Rattle.refusal.specs.Choice.{pick}
@@ -11,9 +12,6 @@ use Rattle.rank.proofs.Best.{cases}
 use Rattle.rank.proofs.Merging.{both}
 use Rattle.senders.specs.declared.Notice.{Notice}
 use Rattle.senders.specs.declared.Record.{Record}
-use Rattle.senders.specs.declared.Plan.{Plan}
-use Rattle.senders.specs.declared.Plan.TheVariants.{Refuse, Put}
-use Rattle.senders.specs.declared.Asked.TheVariants.{Absent, Found}
 use Rattle.senders.specs.Record.{window_of, is_of, is_distant, is_newer, fresh_of, next_of, candidate_of}
 use Rattle.senders.specs.Port.{Port, empty_slot, slot_of, plan_of, port_after, candidate_in, Live}
 use Rattle.senders.specs.History.{PortEvent, announced, interval, made_by, Receipt, accepts, is_by, accepted_from, has_live, since, kept_of, candidate_by, stale_by, unbroken, Steady}
@@ -37,18 +35,18 @@ pub record Puts (p : Port) (t : ℕ) (a : Notice) (k : ℕ) (z : Record) : Type 
   pub later : p.last ≤ t
 
 module _ (p : Port) (t : ℕ) (a : Notice) (size : length p.slots ≡ 16) (k : ℕ) (z : Record) where
-  no_put : {G : Type 0} (y : Refusal) → Refuse y ≡ Put k z → G
+  no_put : {G : Type 0} (y : Refusal) → ◌≡◌ {A = Result (ℕ × Record) Refusal} (Err y) (Ok (k, z)) → G
   no_put {G} y e = absurd (let d : ◌≡◌ {A = ℕ} 0 1 = cc in omega arith)
 
-  the_put : (i : ℕ) (y : Record) → p.last ≤ t → i < 16 → is_of a.sender y ≡ true → Put i y ≡ Put k z → Puts p t a k z
+  the_put : (i : ℕ) (y : Record) → p.last ≤ t → i < 16 → is_of a.sender y ≡ true → ◌≡◌ {A = Result (ℕ × Record) Refusal} (Ok (i, y)) (Ok (k, z)) → Puts p t a k z
   the_put i y l h o e =
       let f : i ≡ k = cc in
       let g : y ≡ z = cc in
       record { inside = subst (λ (j : ℕ). j < 16) f h; its = subst (λ (r : Record). is_of a.sender r ≡ true) g o; later = l }
 
-  puts : plan_of p t a ≡ Put k z → Puts p t a k z
+  puts : plan_of p t a ≡ Ok (k, z) → Puts p t a k z
   puts =
-      plan_cases p t a size (λ q. q ≡ Put k z → Puts p t a k z)
+      plan_cases p t a size (λ q. q ≡ Ok (k, z) → Puts p t a k z)
       (record {
         backward = λ l. no_put Backward;
         renewed = λ i l h o v n. the_put i (next_of (slot_of p i) t a) l h (is_of_lem a.sender (next_of (slot_of p i) t a) refl refl);
@@ -71,13 +69,13 @@ rest_is {m} {n} {k} {l} e = cc
 module _ (x : PortIdentity) where
   past_by : (p : Port) (t : ℕ) (a : Notice) (size : length p.slots ≡ 16) (k : List Receipt)
       → ((n : Receipt) (l : List Receipt) → k ≡ n ∷ l → n.at ≤ p.last)
-      → (q : Plan) → plan_of p t a ≡ q → (b : Bool) → (n : Receipt) (l : List Receipt)
+      → (q : Result (ℕ × Record) Refusal) → plan_of p t a ≡ q → (b : Bool) → (n : Receipt) (l : List Receipt)
       → pick (accepts q && b) (record { at = t; notice = a } ∷ k) k ≡ n ∷ l → n.at ≤ (port_after p t q).last
-  past_by p t a size k past (Refuse y) e b n l f = past n l f
-  past_by p t a size k past (Put i z) e true n l f =
+  past_by p t a size k past (Err y) e b n l f = past n l f
+  past_by p t a size k past (Ok (i, z)) e true n l f =
       let same : t ≡ n.at = ap (λ (r : Receipt). r.at) (head_is f) in
       omega arith
-  past_by p t a size k past (Put i z) e false n l f = omega (arith, past n l f, (puts p t a size i z e).later)
+  past_by p t a size k past (Ok (i, z)) e false n l f = omega (arith, past n l f, (puts p t a size i z e).later)
 
   past : (hs : List PortEvent) (n : Receipt) (l : List Receipt) → accepted_from x hs ≡ n ∷ l → n.at ≤ (made_by hs).last
   unfolding made_by accepted_from
@@ -88,13 +86,13 @@ module _ (x : PortIdentity) where
 
   order_by : (older : List PortEvent) (t : ℕ) (a : Notice)
       → ((n o : Receipt) (l : List Receipt) → accepted_from x older ≡ n ∷ o ∷ l → o.at ≤ n.at)
-      → (q : Plan) → plan_of (made_by older) t a ≡ q → (b : Bool) → (n o : Receipt) (l : List Receipt)
+      → (q : Result (ℕ × Record) Refusal) → plan_of (made_by older) t a ≡ q → (b : Bool) → (n o : Receipt) (l : List Receipt)
       → pick (accepts q && b) (record { at = t; notice = a } ∷ accepted_from x older) (accepted_from x older) ≡ n ∷ o ∷ l → o.at ≤ n.at
-  order_by older t a ordered (Refuse y) e b n o l f = ordered n o l f
-  order_by older t a ordered (Put i z) e true n o l f =
+  order_by older t a ordered (Err y) e b n o l f = ordered n o l f
+  order_by older t a ordered (Ok (i, z)) e true n o l f =
       let same : t ≡ n.at = ap (λ (r : Receipt). r.at) (head_is f) in
       omega (arith, past older o l (rest_is f), (puts (made_by older) t a (size_by_lem older) i z e).later)
-  order_by older t a ordered (Put i z) e false n o l f = ordered n o l f
+  order_by older t a ordered (Ok (i, z)) e false n o l f = ordered n o l f
 
   ordered : (hs : List PortEvent) (n o : Receipt) (l : List Receipt) → accepted_from x hs ≡ n ∷ o ∷ l → o.at ≤ n.at
   unfolding accepted_from
@@ -127,11 +125,11 @@ module _ (x : PortIdentity) where
 
     holds_by : (older : List PortEvent) (t : ℕ) (a : Notice) → window_of (made_by older).e ≡ w
         → ((n : Receipt) (l : List Receipt) → accepted_from x older ≡ n ∷ l → (made_by older).last - n.at ≤ w → HasRecord x (made_by older))
-        → (q : Plan) → plan_of (made_by older) t a ≡ q → (b : Bool) → is_by x a ≡ b → (n : Receipt) (l : List Receipt)
+        → (q : Result (ℕ × Record) Refusal) → plan_of (made_by older) t a ≡ q → (b : Bool) → is_by x a ≡ b → (n : Receipt) (l : List Receipt)
         → pick (accepts q && b) (record { at = t; notice = a } ∷ accepted_from x older) (accepted_from x older) ≡ n ∷ l
         → (port_after (made_by older) t q).last - n.at ≤ w → HasRecord x (port_after (made_by older) t q)
-    holds_by older t a we holds (Refuse y) e b s n l f near = holds n l f near
-    holds_by older t a we holds (Put k z) e true s n l f near =
+    holds_by older t a we holds (Err y) e b s n l f near = holds n l f near
+    holds_by older t a we holds (Ok (k, z)) e true s n l f near =
         let g = puts (made_by older) t a (size_by_lem older) k z e in
         record {
           at = k;
@@ -140,7 +138,7 @@ module _ (x : PortIdentity) where
               ap (is_of x) (get_or-set_same (made_by older).slots k z empty_slot (rw (size_by_lem older) g.inside))
               ∙ subst (λ (y : PortIdentity). is_of y z ≡ true) (by_name x a s) g.its;
         }
-    holds_by older t a we holds (Put k z) e false s n l f near =
+    holds_by older t a we holds (Ok (k, z)) e false s n l f near =
         let p = made_by older in
         let g = puts p t a (size_by_lem older) k z e in
         let later = g.later in
@@ -150,7 +148,7 @@ module _ (x : PortIdentity) where
           at = i;
           inside = there.inside;
           its =
-              subst (λ (q : Plan). is_of x (slot_of (port_after p t q) i) ≡ true) e
+              subst (λ (q : Result (ℕ × Record) Refusal). is_of x (slot_of (port_after p t q) i) ≡ true) e
               (place_kept p t a (size_by_lem older) i x there.its (λ other. live_heard older t n l i we there.inside there.its f near));
         }
 
@@ -190,12 +188,12 @@ module _ (x : PortIdentity) where
         rw (e, goes_on_by older t o l we steady later f (leb (t - o.at) w) refl)
 
     since_by : (older : List PortEvent) (t : ℕ) (a : Notice) → window_of (made_by older).e ≡ w → Steady w older → since x older ≡ unbroken w (accepted_from x older)
-        → (q : Plan) → plan_of (made_by older) t a ≡ q → (b : Bool)
+        → (q : Result (ℕ × Record) Refusal) → plan_of (made_by older) t a ≡ q → (b : Bool)
         → pick (accepts q && b) (record { at = t; notice = a } ∷ pick (has_live x (made_by older) t) (since x older) []) (since x older)
         ≡ unbroken w (pick (accepts q && b) (record { at = t; notice = a } ∷ accepted_from x older) (accepted_from x older))
-    since_by older t a we steady e (Refuse y) f b = e
-    since_by older t a we steady e (Put k z) f false = e
-    since_by older t a we steady e (Put k z) f true =
+    since_by older t a we steady e (Err y) f b = e
+    since_by older t a we steady e (Ok (k, z)) f false = e
+    since_by older t a we steady e (Ok (k, z)) f true =
         more older t a we steady (puts (made_by older) t a (size_by_lem older) k z f).later (accepted_from x older) refl e
 
     -- A SENDER RESTARTS EXACTLY AFTER A GAP THAT IS LONGER THAN W
@@ -216,10 +214,10 @@ module _ (x : PortIdentity) where
 pub record FoundIn (port : ℕ) (p : Port) (t : ℕ) (c : Candidate) : Type 0 where
   pub at : ℕ
   pub inside : at < 16
-  pub is : candidate_in port p at t ≡ Found c
+  pub is : candidate_in port p at t ≡ Ok (Some c)
 
 module _ (hs : List PortEvent) (port w t : ℕ) (steady : Steady w hs) (we : window_of (made_by hs).e ≡ w) (later : (made_by hs).last ≤ t) (x : PortIdentity) where
-  found_in : (c : Candidate) (n o : Receipt) (l : List Receipt) → accepted_from x hs ≡ n ∷ o ∷ l → t - o.at ≤ w → is_distant n.notice ≡ false → Found (candidate_of port (kept_of (n ∷ o ∷ l))) ≡ Found c
+  found_in : (c : Candidate) (n o : Receipt) (l : List Receipt) → accepted_from x hs ≡ n ∷ o ∷ l → t - o.at ≤ w → is_distant n.notice ≡ false → ◌≡◌ {A = Result (Option Candidate) Refusal} (Ok (Some (candidate_of port (kept_of (n ∷ o ∷ l))))) (Ok (Some c))
       → FoundIn port (made_by hs) t c
   unfolding candidate_in
   found_in c n o l f near close is =
@@ -233,7 +231,7 @@ module _ (hs : List PortEvent) (port w t : ℕ) (steady : Steady w hs) (we : win
       let q : leb (t - o.at) (window_of (made_by hs).e) ≡ true = le-leb (t - o.at) (window_of (made_by hs).e) (rw we near) in
       record { at = there.at; inside = there.inside; is = rw (kept, q, close) is }
 
-  when_by : (c : Candidate) (l : List Receipt) → accepted_from x hs ≡ l → candidate_by port w t l ≡ Found c → FoundIn port (made_by hs) t c
+  when_by : (c : Candidate) (l : List Receipt) → accepted_from x hs ≡ l → candidate_by port w t l ≡ Ok (Some c) → FoundIn port (made_by hs) t c
   when_by c [] f e = absurd (let z : ◌≡◌ {A = ℕ} 0 1 = cc in omega arith)
   when_by c (n ∷ []) f e = absurd (let z : ◌≡◌ {A = ℕ} 0 1 = cc in omega arith)
   when_by c (n ∷ o ∷ l) f e =
@@ -241,10 +239,10 @@ module _ (hs : List PortEvent) (port w t : ℕ) (steady : Steady w hs) (we : win
       (λ h.
       let b = both (leb (t - o.at) w) (not (is_distant n.notice)) h in
       found_in c n o l f (leb-true _ _ b.0) (not-true _ b.1) (rw h at e))
-      (λ h. absurd (let g : Absent ≡ Found c = rw h at e in let z : ◌≡◌ {A = ℕ} 0 1 = cc in omega arith))
+      (λ h. absurd (let g : ◌≡◌ {A = Result (Option Candidate) Refusal} (Ok None) (Ok (Some c)) = rw h at e in let z : ◌≡◌ {A = ℕ} 0 1 = cc in omega arith))
 
   -- and, where the interval is not changed, WHOSE TWO LATEST ACCEPTED ANNOUNCES LIE SO, AND WHO IS NOT DISTANT, IS A CANDIDATE, at every time that is not refused
-  pub candidate_when : (c : Candidate) → candidate_by port w t (accepted_from x hs) ≡ Found c → FoundIn port (made_by hs) t c
+  pub candidate_when : (c : Candidate) → candidate_by port w t (accepted_from x hs) ≡ Ok (Some c) → FoundIn port (made_by hs) t c
   candidate_when c e = when_by c (accepted_from x hs) refl e
 
 -- ---- 12 by history
@@ -252,7 +250,7 @@ module _ (hs : List PortEvent) (w t : ℕ) (a : Notice) (steady : Steady w hs) (
   abbrev x : PortIdentity
   x = a.sender
 
-  stale_by_lem : (l : List Receipt) → accepted_from x hs ≡ l → stale_by w t a l ≡ true → plan_of (made_by hs) t a ≡ Refuse Stale
+  stale_by_lem : (l : List Receipt) → accepted_from x hs ≡ l → stale_by w t a l ≡ true → plan_of (made_by hs) t a ≡ Err Stale
   stale_by_lem [] f e = clash e refl
   stale_by_lem (n ∷ l) f e =
       let b = both (leb (t - n.at) w) (not (is_newer a.sequence n.notice.sequence)) e in
@@ -278,8 +276,8 @@ module _ (hs : List PortEvent) (w t : ℕ) (a : Notice) (steady : Steady w hs) (
       rw (near, old)
 
   -- 12 EXACTLY WHEN THE SENDER'S LATEST ACCEPTED ANNOUNCE LIES WITHIN W AND THE SEQUENCEID IS NOT NEWER THAN ITS
-  pub stale_when : stale_by w t a (accepted_from x hs) ≡ true → plan_of (made_by hs) t a ≡ Refuse Stale
+  pub stale_when : stale_by w t a (accepted_from x hs) ≡ true → plan_of (made_by hs) t a ≡ Err Stale
   stale_when e = stale_by_lem (accepted_from x hs) refl e
 
-  pub stale_only : plan_of (made_by hs) t a ≡ Refuse Stale → stale_by w t a (accepted_from x hs) ≡ true
+  pub stale_only : plan_of (made_by hs) t a ≡ Err Stale → stale_by w t a (accepted_from x hs) ≡ true
   stale_only e = only_by (intake.stale_only (made_by hs) t a (size_by_lem hs) e) (accepted_from x hs) refl

@@ -1,10 +1,10 @@
 -- Worked inputs, computed: the eight windows, and histories of one port that rule out an intake that does nothing,
 -- refuses everything or has one answer.
+use Rattle.std.specs.Prelude.{Ok, Err}
 use Rattle.std.proofs.Common.{◌≡◌, ℕ, true, false, List, [], ◌∷◌, map, refl}
 use Rattle.refusal.specs.Choice.{refuse}
 use Rattle.refusal.specs.declared.Refusal.TheVariants.{Backward, Stale, Full}
 use Rattle.senders.specs.declared.Notice.{Notice}
-use Rattle.senders.specs.declared.Plan.TheVariants.{Refuse, Put}
 use Rattle.senders.specs.Record.{window_of, is_newer, fresh_of, next_of}
 use Rattle.rank.specs.declared.Candidate.{Candidate}
 use Rattle.senders.specs.Port.{Port, empty_slot, slot_of, tab, first, kept, plan_of, port_after, candidates_of}
@@ -42,40 +42,40 @@ abbrev sixteen : Port
 sixteen = sixteen_at 0
 
 -- the first sender takes slot 0, also at time 0
-pub taken : plan_of new 0 (from 7 9) ≡ Put 0 (fresh_of 0 (from 7 9))
+pub taken : plan_of new 0 (from 7 9) ≡ Ok (0, fresh_of 0 (from 7 9))
 unfolding plan_of first tab refuse
 taken = refl
 
 -- each refusal comes
-pub backward : plan_of sixteen 99 (from 3 6) ≡ Refuse Backward
+pub backward : plan_of sixteen 99 (from 3 6) ≡ Err Backward
 unfolding plan_of first tab refuse
 backward = refl
 
-pub stale : plan_of sixteen 100 (from 3 5) ≡ Refuse Stale
+pub stale : plan_of sixteen 100 (from 3 5) ≡ Err Stale
 unfolding plan_of first tab refuse
 stale = refl
 
-pub full : plan_of sixteen 4000000100 (from 16 6) ≡ Refuse Full
+pub full : plan_of sixteen 4000000100 (from 16 6) ≡ Err Full
 unfolding plan_of first tab refuse
 full = refl
 
 -- a sender of sixteen goes on in its slot
-pub newer : plan_of sixteen 200 (from 3 6) ≡ Put 3 (next_of (fresh_of 100 (from 3 5)) 200 (from 3 6))
+pub newer : plan_of sixteen 200 (from 3 6) ≡ Ok (3, next_of (fresh_of 100 (from 3 5)) 200 (from 3 6))
 unfolding plan_of first tab refuse
 newer = refl
 
 -- one nanosecond past the window a new sender has the lowest slot, and an old one restarts in its own with any number
-pub reused : plan_of sixteen 4000000101 (from 16 6) ≡ Put 0 (fresh_of 4000000101 (from 16 6))
+pub reused : plan_of sixteen 4000000101 (from 16 6) ≡ Ok (0, fresh_of 4000000101 (from 16 6))
 unfolding plan_of first tab refuse
 reused = refl
 
-pub restarted : plan_of sixteen 4000000101 (from 3 5) ≡ Put 3 (fresh_of 4000000101 (from 3 5))
+pub restarted : plan_of sixteen 4000000101 (from 3 5) ≡ Ok (3, fresh_of 4000000101 (from 3 5))
 unfolding plan_of first tab refuse
 restarted = refl
 
 -- two ports of one clock are two senders
-pub other_port : plan_of (port_after new 0 (Put 0 (fresh_of 0 (from 7 9)))) 0 (record { sender = record { clock = 7; port = 2 }; sequence = 9; grandmaster = empty_slot.notice.grandmaster; steps = 0; wrflags = 0 })
-    ≡ Put 1 (fresh_of 0 (record { sender = record { clock = 7; port = 2 }; sequence = 9; grandmaster = empty_slot.notice.grandmaster; steps = 0; wrflags = 0 }))
+pub other_port : plan_of (port_after new 0 (Ok (0, fresh_of 0 (from 7 9)))) 0 (record { sender = record { clock = 7; port = 2 }; sequence = 9; grandmaster = empty_slot.notice.grandmaster; steps = 0; wrflags = 0 })
+    ≡ Ok (1, fresh_of 0 (record { sender = record { clock = 7; port = 2 }; sequence = 9; grandmaster = empty_slot.notice.grandmaster; steps = 0; wrflags = 0 }))
 unfolding plan_of first tab refuse
 other_port = refl
 
@@ -175,9 +175,9 @@ pub record Distant : Type 0 where
   -- the record is kept, its receipts shift, and its data are replaced
   pub kept_on : slot_of (after_two 254 255) 0 ≡ record { notice = away 255 21; receipts = 2; newest = 1000000000; older = 0 }
   -- it gives 12 and 13, has its place while it is live, and begins again in it
-  pub stale_too : plan_of (after_two 254 255) 2000000000 (away 0 21) ≡ Refuse Stale
-  pub full_too : plan_of (sixteen_at 255) 4000000100 (from 16 6) ≡ Refuse Full
-  pub restarted_too : plan_of (sixteen_at 255) 4000000101 (from 3 5) ≡ Put 3 (fresh_of 4000000101 (from 3 5))
+  pub stale_too : plan_of (after_two 254 255) 2000000000 (away 0 21) ≡ Err Stale
+  pub full_too : plan_of (sixteen_at 255) 4000000100 (from 16 6) ≡ Err Full
+  pub restarted_too : plan_of (sixteen_at 255) 4000000101 (from 3 5) ≡ Ok (3, fresh_of 4000000101 (from 3 5))
 
 pub distant : Distant
 unfolding plan_of first tab refuse candidates_of kept

@@ -1,16 +1,14 @@
 -- A port by its history alone (01, "Sender records"): which Announces were accepted, of whom, and when. What a port keeps of a sender
 -- and whether that is a candidate is said here without slots; the theorems tie it to them.
-use Rattle.std.specs.Prelude.{◌≡◌, ℕ, ◌-◌, Bool, true, false, not, ◌&&◌, List, [], ◌∷◌, ◌==◌, nat_le, nat_lt}
+use Rattle.std.specs.Prelude.{◌≡◌, ℕ, ◌-◌, Bool, true, false, not, ◌&&◌, List, [], ◌∷◌, ◌==◌, nat_le, nat_lt, Option, Some, None, Result, Ok, Err}
 use Rattle.refusal.specs.Choice.{pick}
 use Rattle.rank.specs.declared.PortIdentity.{PortIdentity}
 use Rattle.senders.specs.declared.Notice.{Notice}
 use Rattle.senders.specs.declared.Record.{Record}
-use Rattle.senders.specs.declared.Plan.{Plan}
-use Rattle.senders.specs.declared.Plan.TheVariants.{Refuse, Put}
-use Rattle.senders.specs.declared.Asked.{Asked}
-use Rattle.senders.specs.declared.Asked.TheVariants.{Absent, Found}
 use Rattle.senders.specs.Record.{window_of, is_of, is_live, is_distant, is_newer, candidate_of}
 use Rattle.senders.specs.Port.{Port, tab, empty_slot, first, plan_of, port_after}
+use Rattle.rank.specs.declared.Candidate.{Candidate}
+use Rattle.refusal.specs.declared.Refusal.{Refusal}
 
 -- what happens to a port: an Announce at a time, or an interval that is set (k modulo 8)
 pub data PortEvent : Type 0 where
@@ -34,9 +32,9 @@ pub record Receipt : Type 0 where
   pub at : ℕ
   pub notice : Notice
 
-abbrev pub accepts : Plan → Bool
-accepts (Refuse x) = false
-accepts (Put i r) = true
+abbrev pub accepts : Result (ℕ × Record) Refusal → Bool
+accepts (Err x) = false
+accepts (Ok (i, r)) = true
 
 -- "last accepted time (nanoseconds, 64-bit, starts at 0)"
 unfoldable pub last_accepted : List PortEvent → ℕ
@@ -76,10 +74,10 @@ kept_of (n ∷ o ∷ l) = record { notice = n.notice; receipts = 2; newest = n.a
 
 -- the candidate that a sender's accepted Announces make at t under a window w: none unless there are two, the older of the last
 -- two lies within w of t, and the last is not distant; then by the data of the last
-abbrev pub candidate_by : ℕ → ℕ → ℕ → List Receipt → Asked
-candidate_by port w t [] = Absent
-candidate_by port w t (n ∷ []) = Absent
-candidate_by port w t (n ∷ o ∷ l) = pick (nat_le (t - o.at) w && not (is_distant n.notice)) (Found (candidate_of port (kept_of (n ∷ o ∷ l)))) Absent
+abbrev pub candidate_by : ℕ → ℕ → ℕ → List Receipt → Result (Option Candidate) Refusal
+candidate_by port w t [] = Ok None
+candidate_by port w t (n ∷ []) = Ok None
+candidate_by port w t (n ∷ o ∷ l) = pick (nat_le (t - o.at) w && not (is_distant n.notice)) (Ok (Some (candidate_of port (kept_of (n ∷ o ∷ l))))) (Ok None)
 
 -- 12 by a sender's accepted Announces: "live record, sequenceId not newer"
 abbrev pub stale_by : ℕ → ℕ → Notice → List Receipt → Bool

@@ -1,9 +1,7 @@
 -- A port's records, and what an Announce does to them (01, "Sender records" and "Numbers that refuse").
-use Rattle.std.specs.Prelude.{◌≡◌, ℕ, zero, suc, ◌<◌, Bool, true, false, not, List, [], ◌∷◌, map, nat_lt, slice_index_or, slice_set}
+use Rattle.std.specs.Prelude.{◌≡◌, ℕ, zero, suc, ◌<◌, Bool, true, false, not, List, [], ◌∷◌, map, nat_lt, slice_index_or, slice_set, Option, Some, None, Result, Ok, Err}
 use Rattle.refusal.specs.Choice.{pick, refuse}
 use Rattle.refusal.specs.declared.Refusal.TheVariants.{Backward, Stale, Full}
-use Rattle.refusal.specs.declared.Outcome.{Outcome}
-use Rattle.refusal.specs.declared.Outcome.TheVariants as outcome
 use Rattle.rank.specs.declared.Candidate.{Candidate}
 use Rattle.rank.specs.declared.PortIdentity.{PortIdentity}
 use Rattle.rank.specs.Order.{earlier_of}
@@ -12,11 +10,8 @@ use Rattle.rank.specs.Ranked as ranked
 use Rattle.rank.specs.Best.{best}
 use Rattle.senders.specs.declared.Notice.{Notice}
 use Rattle.senders.specs.declared.Record.{Record}
-use Rattle.senders.specs.declared.Plan.{Plan}
-use Rattle.senders.specs.declared.Plan.TheVariants.{Refuse, Put}
-use Rattle.senders.specs.declared.Asked.{Asked}
-use Rattle.senders.specs.declared.Asked.TheVariants.{Refused, Absent, Found}
 use Rattle.senders.specs.Record.{window_of, is_of, is_live, is_free, is_qualified, is_newer, fresh_of, next_of, candidate_of}
+use Rattle.refusal.specs.declared.Refusal.{Refusal}
 
 -- "Per port: last accepted time .., an announce interval of 2^k seconds .., and 16 slots."; e is k modulo 8
 pub record Port : Type 0 where
@@ -49,33 +44,33 @@ first test [] = 0
 first test (r ∷ l) = pick (test r) 0 (suc (first test l))
 
 -- "An Announce from a live sender must be newer"; "A sender with an expired record restarts in its own slot with one receipt."
-abbrev pub known_of : ℕ → ℕ → Notice → ℕ → Record → Plan
+abbrev pub known_of : ℕ → ℕ → Notice → ℕ → Record → Result (ℕ × Record) Refusal
 known_of w t a i r =
     pick (is_live w t r)
-    (refuse (not (is_newer a.sequence r.notice.sequence)) (Refuse Stale) (Put i (next_of r t a)))
-    (Put i (fresh_of t a))
+    (refuse (not (is_newer a.sequence r.notice.sequence)) (Err Stale) (Ok (i, next_of r t a)))
+    (Ok (i, fresh_of t a))
 
 -- "A new sender takes the lowest slot that is empty or expired."; "new sender, 16 live records on the port"
-abbrev pub new_of : ℕ → Notice → ℕ → Plan
-new_of t a j = refuse (not (nat_lt j 16)) (Refuse Full) (Put j (fresh_of t a))
+abbrev pub new_of : ℕ → Notice → ℕ → Result (ℕ × Record) Refusal
+new_of t a j = refuse (not (nat_lt j 16)) (Err Full) (Ok (j, fresh_of t a))
 
-abbrev pub sender_plan : ℕ → ℕ → Notice → List Record → ℕ → Plan
+abbrev pub sender_plan : ℕ → ℕ → Notice → List Record → ℕ → Result (ℕ × Record) Refusal
 sender_plan w t a l i = pick (nat_lt i 16) (known_of w t a i (slice_index_or l i empty_slot)) (new_of t a (first (is_free w t) l))
 
 -- what an Announce does at t: ".., 11, 12, 13"
-unfoldable pub plan_of : Port → ℕ → Notice → Plan
+unfoldable pub plan_of : Port → ℕ → Notice → Result (ℕ × Record) Refusal
 plan_of p t a =
-    refuse (nat_lt t p.last) (Refuse Backward)
+    refuse (nat_lt t p.last) (Err Backward)
     (sender_plan (window_of p.e) t a p.slots (first (is_of a.sender) p.slots))
 
 -- what a plan answers, and the port after it: "A refusal returns its number alone. State .. stay as they were."
-abbrev pub outcome_of : Plan → Outcome
-outcome_of (Refuse x) = outcome.Refused x
-outcome_of (Put i r) = outcome.Done
+abbrev pub outcome_of : Result (ℕ × Record) Refusal → Result (Unit {0}) Refusal
+outcome_of (Err x) = Err x
+outcome_of (Ok (i, r)) = Ok tt
 
-abbrev pub port_after : Port → ℕ → Plan → Port
-port_after p t (Refuse x) = p
-port_after p t (Put i r) = record { last = t; e = p.e; slots = slice_set p.slots i r }
+abbrev pub port_after : Port → ℕ → Result (ℕ × Record) Refusal → Port
+port_after p t (Err x) = p
+port_after p t (Ok (i, r)) = record { last = t; e = p.e; slots = slice_set p.slots i r }
 
 -- those that pass a test, in slot order
 unfoldable pub kept : (Record → Bool) → List Record → List Record
@@ -87,27 +82,27 @@ unfoldable pub candidates_of : ℕ → Port → ℕ → List Candidate
 candidates_of port p t = map (candidate_of port) (kept (is_qualified (window_of p.e) t) p.slots)
 
 -- "Asking for candidates at T changes nothing and is refused with 8, then 11."
-abbrev pub asked_of : Port → ℕ → Asked → Asked
-asked_of p t answer = refuse (nat_lt t p.last) (Refused Backward) answer
+abbrev pub asked_of : Port → ℕ → Result (Option Candidate) Refusal → Result (Option Candidate) Refusal
+asked_of p t answer = refuse (nat_lt t p.last) (Err Backward) answer
 
 -- the candidate in one slot
-unfoldable pub candidate_in : ℕ → Port → ℕ → ℕ → Asked
+unfoldable pub candidate_in : ℕ → Port → ℕ → ℕ → Result (Option Candidate) Refusal
 candidate_in port p i t =
-    pick (is_qualified (window_of p.e) t (slot_of p i)) (Found (candidate_of port (slot_of p i))) Absent
+    pick (is_qualified (window_of p.e) t (slot_of p i)) (Ok (Some (candidate_of port (slot_of p i)))) (Ok None)
 
 -- the candidates among answers, in their order
-unfoldable pub gather : List Asked → List Candidate
+unfoldable pub gather : List (Result (Option Candidate) Refusal) → List Candidate
 gather [] = []
-gather (Refused x ∷ l) = gather l
-gather (Absent ∷ l) = gather l
-gather (Found c ∷ l) = c ∷ gather l
+gather (Err x ∷ l) = gather l
+gather (Ok None ∷ l) = gather l
+gather (Ok (Some c) ∷ l) = c ∷ gather l
 
 -- the best candidate of a port
-abbrev pub head_of : List Candidate → Asked
-head_of [] = Absent
-head_of (c ∷ l) = Found c
+abbrev pub head_of : List Candidate → Result (Option Candidate) Refusal
+head_of [] = Ok None
+head_of (c ∷ l) = Ok (Some c)
 
-unfoldable pub best_of : ℕ → Port → ℕ → Asked
+unfoldable pub best_of : ℕ → Port → ℕ → Result (Option Candidate) Refusal
 best_of port p t = head_of (best earlier_of ranked.receiver_of port (candidates_of port p t))
 
 -- "new sender": no slot has a record of it

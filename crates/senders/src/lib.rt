@@ -37,21 +37,6 @@ pub struct Record {
     pub older: u64,
 }
 
-// What an Announce is to do to its port.
-#[derive(Clone, Copy)]
-pub enum Plan {
-    Refuse(Refusal),
-    Put(usize, Record),
-}
-
-// What asking for a candidate gives.
-#[derive(Clone, Copy)]
-pub enum Asked {
-    Refused(Refusal),
-    Absent,
-    Found(Candidate),
-}
-
 // Four intervals of an eighth of a second, in nanoseconds.
 const LEAST: u64 = 500000000;
 
@@ -148,27 +133,27 @@ pub fn next(r: Record, a: Notice, t: u64) -> Record
 }
 
 // What an Announce does whose sender has the record in slot `i`.
-pub fn known(r: Record, i: usize, w: u64, t: u64, a: Notice) -> Plan
+pub fn known(r: Record, i: usize, w: u64, t: u64, a: Notice) -> Result<(usize, Record), Refusal>
     ensures { result ≡ known_of w t a i r }
 {
     if !is_live(r, w, t) {
-        return Plan::Put(i, fresh(a, t));
+        return Ok((i, fresh(a, t)));
     }
     let n = r.notice;
     if is_newer(a.sequence, n.sequence) {
-        return Plan::Put(i, next(r, a, t));
+        return Ok((i, next(r, a, t)));
     }
-    Plan::Refuse(Refusal::Stale)
+    Err(Refusal::Stale)
 }
 
 // What an Announce of a new sender does, where `j` is the lowest free slot.
-pub fn unknown(j: usize, t: u64, a: Notice) -> Plan
+pub fn unknown(j: usize, t: u64, a: Notice) -> Result<(usize, Record), Refusal>
     ensures { result ≡ new_of t a j }
 {
     if j < SLOTS {
-        return Plan::Put(j, fresh(a, t));
+        return Ok((j, fresh(a, t)));
     }
-    Plan::Refuse(Refusal::Full)
+    Err(Refusal::Full)
 }
 
 // The candidate that a record is on a port.

@@ -1,4 +1,5 @@
 -- The cases of the definitions, over plain values: at a `return`, the tests that led there pick one.
+use Rattle.std.specs.Prelude.{Option, Some, None, Result, Ok, Err}
 use mathlib.Core.Path.{◌≡◌, refl, sym, ap, ◌∙◌}
 use mathlib.Core.Bool.{Bool, true, false, ◌&&◌}
 use mathlib.Core.List.{List, [], ◌∷◌, map}
@@ -16,17 +17,13 @@ use Rattle.rank.specs.Best.{better, best}
 use Rattle.rank.specs.Ranked as ranked
 use Rattle.senders.specs.declared.Notice.{Notice}
 use Rattle.senders.specs.declared.Record.{Record}
-use Rattle.senders.specs.declared.Plan.{Plan}
-use Rattle.senders.specs.declared.Plan.TheVariants.{Refuse}
-use Rattle.senders.specs.declared.Asked.{Asked}
-use Rattle.senders.specs.declared.Asked.TheVariants.{Refused, Absent, Found}
 use Rattle.senders.specs.Record.{window_of, is_of, is_free, is_qualified, candidate_of}
 use Rattle.senders.specs.Port.{Port, empty_slot, slot_of, tab, first, kept, known_of, new_of, plan_of, asked_of, candidate_in, candidates_of, best_of, head_of}
-use Rattle.slots.specs.declared.Seen.TheVariants.{Empty, Held}
 use Rattle.slots.specs.Words.{block, begin_of, record_of, slot_at, slots_of, port_of, seen_in, ahead_in, outdoes_in, best_in}
 use Rattle.slots.specs.Places.{place_among, found_in}
 use Rattle.slots.proofs.Laws.{length_tab, get_d_tab, get_d_past}
 use Rattle.slots.proofs.Order.{earlier_words}
+use Rattle.refusal.specs.declared.Refusal.{Refusal}
 
 -- ---- a slot of the words is that of the port
 pub slot_is : (ws : List ℕ) (i : ℕ) → i < 16 → slot_at ws i ≡ slot_of (port_of ws) i
@@ -37,62 +34,62 @@ slot_past ws i h = sym (get_d_past 16 (slot_at ws) i empty_slot h)
 
 -- ---- looking into a slot
 module _ (p : Port) (i : ℕ) (r : Record) (e : r ≡ slot_of p i) where
-  pub slot_held : (r.receipts ≡ 0 → ⊥) → Held r ≡ seen_in p i
+  pub slot_held : (r.receipts ≡ 0 → ⊥) → Some r ≡ seen_in p i
   unfolding seen_in
   slot_held h = rw (← e, ne_eqb _ _ h)
 
-  pub slot_empty : r.receipts ≡ 0 → Empty ≡ seen_in p i
+  pub slot_empty : r.receipts ≡ 0 → None ≡ seen_in p i
   unfolding seen_in
   slot_empty h = rw (← e, eq-eqb _ _ h)
 
 -- ---- what an Announce does
 module _ (p : Port) (t : ℕ) (a : Notice) where
-  pub plan_backward : t < p.last → Refuse Backward ≡ plan_of p t a
+  pub plan_backward : t < p.last → Err Backward ≡ plan_of p t a
   unfolding plan_of refuse
   plan_backward h = rw (lt-ltb _ _ h)
 
-  pub plan_known : (w i : ℕ) (r : Record) (q : Plan) → p.last ≤ t → w ≡ window_of p.e → i ≡ first (is_of a.sender) p.slots → i < 16
+  pub plan_known : (w i : ℕ) (r : Record) (q : Result (ℕ × Record) Refusal) → p.last ≤ t → w ≡ window_of p.e → i ≡ first (is_of a.sender) p.slots → i < 16
       → r ≡ slot_of p i → q ≡ known_of w t a i r → q ≡ plan_of p t a
   unfolding plan_of refuse
   plan_known w i r q h ew ei hi er eq =
       rw (le-ltb _ _ h, ← ew, ← ei, lt-ltb _ _ hi) (eq ∙ ap (λ (x : Record). known_of w t a i x) er)
 
-  pub plan_new : (w i j : ℕ) (q : Plan) → p.last ≤ t → w ≡ window_of p.e → i ≡ first (is_of a.sender) p.slots → 16 ≤ i
+  pub plan_new : (w i j : ℕ) (q : Result (ℕ × Record) Refusal) → p.last ≤ t → w ≡ window_of p.e → i ≡ first (is_of a.sender) p.slots → 16 ≤ i
       → j ≡ first (is_free w t) p.slots → q ≡ new_of t a j → q ≡ plan_of p t a
   unfolding plan_of refuse
   plan_new w i j q h ew ei hi ej eq =
       rw (le-ltb _ _ h, ← ew, ← ei, le-ltb _ _ hi) (eq ∙ ap (new_of t a) ej)
 
 -- ---- asking
-module _ (p : Port) (t : ℕ) (x : Asked) where
-  pub ask_backward : t < p.last → Refused Backward ≡ asked_of p t x
+module _ (p : Port) (t : ℕ) (x : Result (Option Candidate) Refusal) where
+  pub ask_backward : t < p.last → Err Backward ≡ asked_of p t x
   unfolding refuse
   ask_backward h = rw (lt-ltb _ _ h)
 
-  pub ask_on : (q : Asked) → p.last ≤ t → q ≡ x → q ≡ asked_of p t x
+  pub ask_on : (q : Result (Option Candidate) Refusal) → p.last ≤ t → q ≡ x → q ≡ asked_of p t x
   unfolding refuse
   ask_on q h e = rw (le-ltb _ _ h) e
 
 module _ (port : ℕ) (p : Port) (i t : ℕ) (w : ℕ) (r : Record) (ew : w ≡ window_of p.e) (er : r ≡ slot_of p i) where
-  pub candidate_yes : (b : Bool) (c : Candidate) → b ≡ is_qualified w t r → b ≡ true → c ≡ candidate_of port r → Found c ≡ candidate_in port p i t
+  pub candidate_yes : (b : Bool) (c : Candidate) → b ≡ is_qualified w t r → b ≡ true → c ≡ candidate_of port r → Ok (Some c) ≡ candidate_in port p i t
   unfolding candidate_in
-  candidate_yes b c eb h ec = rw (← er, ← ew, ← eb, h) (ap Found ec)
+  candidate_yes b c eb h ec = rw (← er, ← ew, ← eb, h) (ap Ok (Some ec))
 
-  pub candidate_no : (b : Bool) → b ≡ is_qualified w t r → b ≡ false → Absent ≡ candidate_in port p i t
+  pub candidate_no : (b : Bool) → b ≡ is_qualified w t r → b ≡ false → Ok None ≡ candidate_in port p i t
   unfolding candidate_in
   candidate_no b eb h = rw (← er, ← ew, ← eb, h)
 
-pub candidate_past : (port : ℕ) (p : Port) (i t : ℕ) → empty_slot ≡ slot_of p i → Absent ≡ candidate_in port p i t
+pub candidate_past : (port : ℕ) (p : Port) (i t : ℕ) → empty_slot ≡ slot_of p i → Ok None ≡ candidate_in port p i t
 unfolding candidate_in
 candidate_past port p i t e = rw (← e)
 
 -- ---- the best
-abbrev ahead : Candidate → Asked → Asked
-ahead c (Found d) = pick (earlier_of c d) (Found c) (Found d)
-ahead c Absent = Found c
-ahead c (Refused x) = Found c
+abbrev ahead : Candidate → Result (Option Candidate) Refusal → Result (Option Candidate) Refusal
+ahead c (Ok (Some d)) = pick (earlier_of c d) (Ok (Some c)) (Ok (Some d))
+ahead c (Ok None) = Ok (Some c)
+ahead c (Err x) = Ok (Some c)
 
-head_pick : (b : Bool) (c d : Candidate) (l : List Candidate) → head_of (pick b (c ∷ []) (d ∷ l)) ≡ pick b (Found c) (Found d)
+head_pick : (b : Bool) (c d : Candidate) (l : List Candidate) → head_of (pick b (c ∷ []) (d ∷ l)) ≡ pick b (Ok (Some c)) (Ok (Some d))
 head_pick true c d l = refl
 head_pick false c d l = refl
 
@@ -114,10 +111,10 @@ module _ (port w t : ℕ) (r : Record) (l : List Record) where
   best_cons = cons_by (is_qualified w t r)
 
 -- one record more, by the three tests: qualified, none before it, earlier
-turned : (A : ℕ → Asked) (a b : ℕ) (c d : Candidate) (q x y : Bool) → A a ≡ Found c → A b ≡ pick x Absent (Found d) → earlier_of c d ≡ y
+turned : (A : ℕ → Result (Option Candidate) Refusal) (a b : ℕ) (c d : Candidate) (q x y : Bool) → A a ≡ Ok (Some c) → A b ≡ pick x (Ok None) (Ok (Some d)) → earlier_of c d ≡ y
     → A (pick (q && pick x true y) a b) ≡ pick q (ahead c (A b)) (A b)
-turned A a b c d true false true ai ab e = ai ∙ sym (ap (ahead c) ab ∙ ap (λ (z : Bool). pick z (Found c) (Found d)) e)
-turned A a b c d true false false ai ab e = ab ∙ sym (ap (ahead c) ab ∙ ap (λ (z : Bool). pick z (Found c) (Found d)) e)
+turned A a b c d true false true ai ab e = ai ∙ sym (ap (ahead c) ab ∙ ap (λ (z : Bool). pick z (Ok (Some c)) (Ok (Some d))) e)
+turned A a b c d true false false ai ab e = ab ∙ sym (ap (ahead c) ab ∙ ap (λ (z : Bool). pick z (Ok (Some c)) (Ok (Some d))) e)
 turned A a b c d true true y ai ab e = ai ∙ sym (ap (ahead c) ab)
 turned A a b c d false x y ai ab e = refl
 
@@ -149,7 +146,7 @@ module _ (port : ℕ) (ws : List ℕ) (words : Words64 ws) (w t i b : ℕ) (h : 
       let d = candidate_of port (record_of (block ws b 6)) in
       ap (λ (z : Bool). found_in port ws (pick (q && pick (eqb b 0) true z) a b)) (ahead_is port ws a b words)
       ∙ turned (found_in port ws) a b c d q (eqb b 0) (earlier_of c d) (rw (ne_eqb a 0 (λ e. omega arith))) refl refl
-      ∙ ap (λ (z : Asked). pick q (ahead c z) z) (inv ∙ ap (λ (k : ℕ). best_in port w t (drop k (slots_of ws))) ej)
+      ∙ ap (λ (z : Result (Option Candidate) Refusal). pick q (ahead c z) z) (inv ∙ ap (λ (k : ℕ). best_in port w t (drop k (slots_of ws))) ej)
       ∙ sym (ap (best_in port w t) from_here ∙ best_cons port w t (slot_at ws i) (drop (suc i) (slots_of ws)))
 
 best_start : (port : ℕ) (ws : List ℕ) (w t : ℕ) → found_in port ws 0 ≡ best_in port w t (drop 16 (slots_of ws))
@@ -172,8 +169,8 @@ module _ (port : ℕ) (ws : List ℕ) (w t b : ℕ) (ew : w ≡ window_of (port_
   unfolding best_in best_of candidates_of
   its = rw (← ew) is
 
-  pub best_yes : (r : Record) (c : Candidate) → (b ≡ 0 → ⊥) → r ≡ record_of (block ws b 6) → c ≡ candidate_of port r → Found c ≡ best_of port (port_of ws) t
-  best_yes r c h er ec = ap Found (ec ∙ ap (candidate_of port) er) ∙ rw (ne_eqb _ _ h) at its
+  pub best_yes : (r : Record) (c : Candidate) → (b ≡ 0 → ⊥) → r ≡ record_of (block ws b 6) → c ≡ candidate_of port r → Ok (Some c) ≡ best_of port (port_of ws) t
+  best_yes r c h er ec = ap Ok (Some (ec ∙ ap (candidate_of port) er)) ∙ rw (ne_eqb _ _ h) at its
 
-  pub best_no : b ≡ 0 → Absent ≡ best_of port (port_of ws) t
+  pub best_no : b ≡ 0 → Ok None ≡ best_of port (port_of ws) t
   best_no h = rw (eq-eqb _ _ h) at its

@@ -1,4 +1,5 @@
 -- Laws of the layout: parts that are lent, tables of slots, and a block of words put anew.
+use Rattle.std.specs.Prelude.{Result, Ok, Err}
 use mathlib.Core.Path.{◌≡◌, refl, ap, ◌∙◌, sym}
 use mathlib.Core.Bool.{Bool, true, false}
 use mathlib.Core.List.{List, [], ◌∷◌, ◌++◌, append_assoc}
@@ -9,12 +10,9 @@ use lib.ListN.{length, get_or, set, take, drop, length-append, length-take, leng
 use lib.Seq.{drop-drop, length-take-le, drop_at, take_at, get_or-take, get_or-drop, ext_get_or}
 use borrow.Rule.Slice.PartMut.{put_mid, Post-is}
 use Rattle.senders.specs.declared.Record.{Record}
-use Rattle.senders.specs.declared.Plan.{Plan}
-use Rattle.senders.specs.declared.Plan.TheVariants.{Refuse, Put}
 use Rattle.senders.specs.Port.{tab, first, empty_slot, outcome_of}
 use Rattle.senders.proofs.First.{first_hit, first_none}
 use Rattle.refusal.specs.declared.Refusal.{Refusal}
-use Rattle.refusal.specs.declared.Outcome.TheVariants as outcome
 use Rattle.slots.specs.Words.{block, splice, put_slot, words_after}
 
 -- what the borrow checker says of a part that is lent, `&ws[b..b + n]` and `&mut ws[b..b + n]`, in the layout's terms
@@ -128,13 +126,13 @@ module _ (ws vs : List ℕ) (b n : ℕ) (lv : length vs ≡ n) (fits : b + n ≤
       ∙ sym (get_or-take m (drop c ws) i 0 i<m ∙ get_or-drop c ws i 0))
 
 -- ---- what a plan does, by its case
-pub refused : (ws : List ℕ) (t : ℕ) (q p : Plan) (x : Refusal) → q ≡ p → q ≡ Refuse x → (outcome.Refused x ≡ outcome_of p) × (ws ≡ words_after ws t p)
+pub refused : (ws : List ℕ) (t : ℕ) (q p : Result (ℕ × Record) Refusal) (x : Refusal) → q ≡ p → q ≡ Err x → (Err x ≡ outcome_of p) × (ws ≡ words_after ws t p)
 refused ws t q p x e f =
-    let g : Refuse x ≡ p = sym f ∙ e in
+    let g : Err x ≡ p = sym f ∙ e in
     (ap outcome_of g, ap (words_after ws t) g)
 
-pub put : (ws : List ℕ) (t : ℕ) (q p : Plan) (i : ℕ) (r : Record) → q ≡ p → q ≡ Put i r
-    → (outcome.Done ≡ outcome_of p) × (set (put_slot ws i r) 0 t ≡ words_after ws t p)
+pub put : (ws : List ℕ) (t : ℕ) (q p : Result (ℕ × Record) Refusal) (i : ℕ) (r : Record) → q ≡ p → q ≡ Ok (i, r)
+    → (Ok tt ≡ outcome_of p) × (set (put_slot ws i r) 0 t ≡ words_after ws t p)
 put ws t q p i r e f =
-    let g : Put i r ≡ p = sym f ∙ e in
+    let g : Ok (i, r) ≡ p = sym f ∙ e in
     (ap outcome_of g, ap (words_after ws t) g)

@@ -1,4 +1,5 @@
 -- What the words mean: a record that was written is read back, and the words after a plan are the port after it.
+use Rattle.std.specs.Prelude.{Ok}
 use mathlib.Core.Path.{◌≡◌, refl, ap, sym, ◌∙◌}
 use mathlib.Core.Bool.{Bool, true, false, not}
 use mathlib.Core.List.{List}
@@ -11,7 +12,6 @@ use lib.Seq.{drop-set-lt, get_or-set_same, get_or-set_other}
 use Rattle.rank.specs.declared.Grandmaster.{Grandmaster}
 use Rattle.senders.specs.declared.Notice.{Notice}
 use Rattle.senders.specs.declared.Record.{Record}
-use Rattle.senders.specs.declared.Plan.TheVariants.{Put}
 use Rattle.senders.specs.Record.{window_of, is_of, is_free, fresh_of, next_of}
 use Rattle.senders.specs.Port.{Port, slot_of, port_after, plan_of, Live}
 use Rattle.senders.proofs.Intake.{plan_cases}
@@ -119,7 +119,7 @@ module _ (ws : List ℕ) (t i : ℕ) (r : Record) (n : length ws ≡ 98) (h : i 
       (λ (gt : i < k). ap record_of (block_after ws (words_of r) (2 + 6 * i) 6 (length_words r) room (2 + 6 * k) 6 (omega arith)))
       (ne_split k i other)
 
-  put_means : Small r → port_of (set (put_slot ws i r) 0 t) ≡ port_after (port_of ws) t (Put i r)
+  put_means : Small r → port_of (set (put_slot ws i r) 0 t) ≡ port_after (port_of ws) t (Ok (i, r))
   put_means small =
       let l = put_slot ws i r in
       let len : length l ≡ 98 = length_splice ws (words_of r) (2 + 6 * i) 6 (length_words r) room ∙ n in

@@ -1,4 +1,5 @@
 -- A plan puts its record into one of the sixteen slots, and the record is of the notice that was planned for.
+use Rattle.std.specs.Prelude.{Result, Ok, Err}
 use mathlib.Core.Path.{◌≡◌, refl}
 use mathlib.Core.List.{List}
 use Prim.Native.Nat.{ℕ, ◌<◌}
@@ -6,24 +7,23 @@ use native.Mathlib.Omega.{arith}
 use Rattle.refusal.specs.declared.Refusal.{Refusal}
 use Rattle.senders.specs.declared.Notice.{Notice}
 use Rattle.senders.specs.declared.Record.{Record}
-use Rattle.senders.specs.declared.Plan.TheVariants.{Refuse, Put}
 use Rattle.senders.specs.Port.{plan_of}
 use Rattle.senders.proofs.Intake.{plan_cases}
 use Rattle.slots.specs.Words.{port_of, slot_at}
 use Rattle.slots.proofs.Laws.{length_tab}
 
-no_put : {G : Type 0} {x : Refusal} {k : ℕ} {r : Record} → Refuse x ≡ Put k r → G
+no_put : {G : Type 0} {x : Refusal} {k : ℕ} {r : Record} → ◌≡◌ {A = Result (ℕ × Record) Refusal} (Err x) (Ok (k, r)) → G
 no_put {G} {x} {k} {r} e = absurd (let d : ◌≡◌ {A = ℕ} 0 1 = cc in omega arith)
 
-inside : {k i : ℕ} {r s : Record} → i < 16 → Put i s ≡ Put k r → k < 16
+inside : {k i : ℕ} {r s : Record} → i < 16 → ◌≡◌ {A = Result (ℕ × Record) Refusal} (Ok (i, s)) (Ok (k, r)) → k < 16
 inside {k} {i} {r} {s} h e = let d : i ≡ k = cc in omega arith
 
-of_notice : {a : Notice} {k i : ℕ} {r s : Record} → s.notice ≡ a → Put i s ≡ Put k r → r.notice ≡ a
+of_notice : {a : Notice} {k i : ℕ} {r s : Record} → s.notice ≡ a → ◌≡◌ {A = Result (ℕ × Record) Refusal} (Ok (i, s)) (Ok (k, r)) → r.notice ≡ a
 of_notice {a} {k} {i} {r} {s} h e = let d : s ≡ r = cc in rw d at h
 
-pub plan_place : (ws : List ℕ) (t : ℕ) (a : Notice) (k : ℕ) (r : Record) → plan_of (port_of ws) t a ≡ Put k r → k < 16
+pub plan_place : (ws : List ℕ) (t : ℕ) (a : Notice) (k : ℕ) (r : Record) → plan_of (port_of ws) t a ≡ Ok (k, r) → k < 16
 plan_place ws t a k r =
-    plan_cases (port_of ws) t a (length_tab 16 (slot_at ws)) (λ q. q ≡ Put k r → k < 16)
+    plan_cases (port_of ws) t a (length_tab 16 (slot_at ws)) (λ q. q ≡ Ok (k, r) → k < 16)
     (record {
       backward = λ l e. no_put e;
       renewed = λ i l h o v n e. inside h e;
@@ -33,9 +33,9 @@ plan_place ws t a k r =
       full = λ l n v e. no_put e;
     })
 
-pub plan_notice : (ws : List ℕ) (t : ℕ) (a : Notice) (k : ℕ) (r : Record) → plan_of (port_of ws) t a ≡ Put k r → r.notice ≡ a
+pub plan_notice : (ws : List ℕ) (t : ℕ) (a : Notice) (k : ℕ) (r : Record) → plan_of (port_of ws) t a ≡ Ok (k, r) → r.notice ≡ a
 plan_notice ws t a k r =
-    plan_cases (port_of ws) t a (length_tab 16 (slot_at ws)) (λ q. q ≡ Put k r → r.notice ≡ a)
+    plan_cases (port_of ws) t a (length_tab 16 (slot_at ws)) (λ q. q ≡ Ok (k, r) → r.notice ≡ a)
     (record {
       backward = λ l e. no_put e;
       renewed = λ i l h o v n e. of_notice refl e;

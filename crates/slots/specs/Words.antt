@@ -1,21 +1,18 @@
 -- How a port lies in the 98 words that the host lends: word 0 the last accepted time, word 1 the interval's exponent (k modulo 8), then
 -- sixteen slots of six words. Each field has its width and fills its place, so that any words are a port.
-use Rattle.std.specs.Prelude.{ℕ, ◌+◌, ◌*◌, ◌/◌, ◌%◌, ◌<◌, Bool, true, ◌&&◌, List, [], ◌∷◌, ◌++◌, map, eqb, ltb, get_or, take, drop, set}
+use Rattle.std.specs.Prelude.{ℕ, ◌+◌, ◌*◌, ◌/◌, ◌%◌, ◌<◌, Bool, true, ◌&&◌, List, [], ◌∷◌, ◌++◌, map, eqb, ltb, get_or, take, drop, set, Option, Some, None, Result, Ok, Err}
 use Rattle.refusal.specs.Choice.{pick}
 use Rattle.rank.specs.declared.Grandmaster.{Grandmaster}
 use Rattle.rank.specs.Order.{earlier_of}
 use Rattle.rank.specs.Best.{best}
 use Rattle.rank.specs.Ranked as ranked
 use Rattle.senders.specs.declared.Record.{Record}
-use Rattle.senders.specs.declared.Plan.{Plan}
-use Rattle.senders.specs.declared.Plan.TheVariants.{Refuse, Put}
-use Rattle.senders.specs.declared.Asked.{Asked}
 use Rattle.senders.specs.Record.{is_of, is_free, is_qualified, candidate_of}
 use Rattle.senders.specs.Port.{Port, slot_of, tab, kept, head_of}
 use Rattle.slots.specs.declared.Sought.{Sought}
 use Rattle.slots.specs.declared.Sought.TheVariants.{Of, Free}
-use Rattle.slots.specs.declared.Seen.{Seen}
-use Rattle.slots.specs.declared.Seen.TheVariants.{Empty, Held}
+use Rattle.rank.specs.declared.Candidate.{Candidate}
+use Rattle.refusal.specs.declared.Refusal.{Refusal}
 
 -- what a port takes: two words, and sixteen records of six
 abbrev pub port_words : ℕ
@@ -96,9 +93,9 @@ abbrev pub put_slot : List ℕ → ℕ → Record → List ℕ
 put_slot ws i r = splice ws (begin_of i) 6 (words_of r)
 
 -- the words after a plan: one record and one time are written, or nothing
-abbrev pub words_after : List ℕ → ℕ → Plan → List ℕ
-words_after ws t (Refuse x) = ws
-words_after ws t (Put i r) = set (put_slot ws i r) 0 t
+abbrev pub words_after : List ℕ → ℕ → Result (ℕ × Record) Refusal → List ℕ
+words_after ws t (Err x) = ws
+words_after ws t (Ok (i, r)) = set (put_slot ws i r) 0 t
 
 -- what a slot is looked for by
 abbrev pub sought_in : Sought → Record → Bool
@@ -106,10 +103,10 @@ sought_in (Of sender) r = is_of sender r
 sought_in (Free w t) r = is_free w t r
 
 -- a slot that ever held a record has receipts
-abbrev pub seen_record : Record → Seen
-seen_record r = pick (eqb r.receipts 0) Empty (Held r)
+abbrev pub seen_record : Record → Option Record
+seen_record r = pick (eqb r.receipts 0) None (Some r)
 
-unfoldable pub seen_in : Port → ℕ → Seen
+unfoldable pub seen_in : Port → ℕ → Option Record
 seen_in p i = seen_record (slot_of p i)
 
 -- rank order of two records on one port, as their words show it: the quality as one number, the grandmaster, stepsRemoved, the sender, wrFlags
@@ -136,7 +133,7 @@ abbrev pub outdoes_in : List ℕ → ℕ → ℕ → ℕ → ℕ → Bool
 outdoes_in ws a b w t = is_qualified w t (record_of (block ws a 6)) && pick (eqb b 0) true (ahead_in ws a b)
 
 -- the best candidate of a list of records
-unfoldable pub best_in : ℕ → ℕ → ℕ → List Record → Asked
+unfoldable pub best_in : ℕ → ℕ → ℕ → List Record → Result (Option Candidate) Refusal
 best_in port w t l = head_of (best earlier_of ranked.receiver_of port (map (candidate_of port) (kept (is_qualified w t) l)))
 
 -- the fields that share a word with others fit their widths

@@ -8,13 +8,12 @@
 // are, is left to those above.
 ghost use Rattle.std.specs.Prelude.{◌≡◌, ◌+◌, ◌-◌, ◌≤◌, ◌<◌, length, set};
 ghost use Rattle.senders.specs.Port.{first, plan_of, asked_of, candidate_in, best_of};
-ghost use Rattle.senders.specs.declared.Plan.TheVariants.{Put};
 ghost use Rattle.slots.specs.Words.{of_six, six_of, id_word, grade_word, slot_at, slots_of, port_of, put_slot, words_after, sought_in, seen_in, before_in, later_in, outdoes_in, port_words};
 ghost use Rattle.slots.specs.Places.{place_among, place_in, above_in};
 
-use rank::{Grandmaster, PortIdentity};
+use rank::{Candidate, Grandmaster, PortIdentity};
 use refusal::Refusal;
-use senders::{Asked, Notice, Plan, Record, SLOTS};
+use senders::{Notice, Record, SLOTS};
 
 // The words of a port: two, and sixteen records of six.
 pub const WORDS: usize = 98;
@@ -24,13 +23,6 @@ pub const WORDS: usize = 98;
 pub enum Sought {
     Of(PortIdentity),
     Free(u64, u64),
-}
-
-// What looking into a slot shows.
-#[derive(Clone, Copy)]
-pub enum Seen {
-    Empty,
-    Held(Record),
 }
 
 // The record in a slot's six words.
@@ -152,12 +144,12 @@ fn find_free(ws: &[u64], w: u64, t: u64) -> usize
 }
 
 // What an Announce at `t` is to do.
-pub fn plan(ws: &[u64], t: u64, a: Notice) -> Plan
+pub fn plan(ws: &[u64], t: u64, a: Notice) -> Result<(usize, Record), Refusal>
     requires { length ws.now ≡ port_words }
     ensures { result ≡ plan_of (port_of ws.now) t a }
 {
     if t < ws[0] {
-        return Plan::Refuse(Refusal::Backward);
+        return Err(Refusal::Backward);
     }
     let w = senders::window(ws[1]);
     let sender = a.sender;
@@ -173,42 +165,42 @@ pub fn plan(ws: &[u64], t: u64, a: Notice) -> Plan
 pub fn put(ws: &mut [u64], i: usize, t: u64, r: Record, identity: u64, grade: u64)
     requires ws_len { (length ws.old ≡ port_words) × (i < 16) }
     requires identity_value { (identity ≡ r.notice.grandmaster.identity) × (grade ≡ grade_word r.notice.grandmaster r.notice.steps) }
-    ensures { ws.new ≡ words_after ws.old t (Put i r) }
+    ensures { ws.new ≡ words_after ws.old t (Ok (i, r)) }
 {
     store(ws, i, r, identity, grade);
     ws[0] = t;
 }
 
 // What slot `i` holds.
-pub fn slot(ws: &[u64], i: usize) -> Seen
+pub fn slot(ws: &[u64], i: usize) -> Option<Record>
     requires { length ws.now ≡ port_words }
     ensures { result ≡ seen_in (port_of ws.now) i }
 {
     if i < SLOTS {
         let r = load(ws, i);
         if r.receipts != 0 {
-            return Seen::Held(r);
+            return Some(r);
         }
     }
-    Seen::Empty
+    None
 }
 
 // The candidate in slot `i` at `t`; `port` is the port that keeps it.
-pub fn candidate(ws: &[u64], port: u8, i: usize, t: u64) -> Asked
+pub fn candidate(ws: &[u64], port: u8, i: usize, t: u64) -> Result<Option<Candidate>, Refusal>
     requires { length ws.now ≡ port_words }
     ensures { result ≡ asked_of (port_of ws.now) t (candidate_in port (port_of ws.now) i t) }
 {
     if t < ws[0] {
-        return Asked::Refused(Refusal::Backward);
+        return Err(Refusal::Backward);
     }
     let w = senders::window(ws[1]);
     if i < SLOTS {
         let r = load(ws, i);
         if senders::is_qualified(r, w, t) {
-            return Asked::Found(senders::candidate(r, port));
+            return Ok(Some(senders::candidate(r, port)));
         }
     }
-    Asked::Absent
+    Ok(None)
 }
 
 // Whether the record of six words stands before that of six others in rank order, on one port. The quality is one number
@@ -286,18 +278,18 @@ fn best_place(ws: &[u64], w: u64, t: u64) -> usize
 }
 
 // The best candidate at `t`.
-pub fn best(ws: &[u64], port: u8, t: u64) -> Asked
+pub fn best(ws: &[u64], port: u8, t: u64) -> Result<Option<Candidate>, Refusal>
     requires { length ws.now ≡ port_words }
     ensures { result ≡ asked_of (port_of ws.now) t (best_of port (port_of ws.now) t) }
 {
     if t < ws[0] {
-        return Asked::Refused(Refusal::Backward);
+        return Err(Refusal::Backward);
     }
     let b = best_place(ws, senders::window(ws[1]), t);
     if b == 0 {
-        return Asked::Absent;
+        return Ok(None);
     }
-    Asked::Found(senders::candidate(read(&ws[b..b + 6]), port))
+    Ok(Some(senders::candidate(read(&ws[b..b + 6]), port)))
 }
 
 // Where the record of the best candidate at `t` begins in the port's words, or 0 where there is none.

@@ -1,4 +1,5 @@
 -- What it says of a TLV that it has a form.
+use Rattle.std.specs.Prelude.{Option, Some, None}
 use Prim.Native.Nat.{ℕ, ◌+◌, ◌*◌, ◌/◌, ◌%◌, ◌<◌, ◌≤◌}
 use mathlib.Core.Path.{◌≡◌, refl}
 use mathlib.Core.List.{List}
@@ -12,8 +13,6 @@ use Rattle.octets.proofs.Laws.{be_split}
 use Rattle.refusal.specs.Choice.{pick}
 use Rattle.tlv.specs.Walk.{type_at, size_at}
 use Rattle.tlv.specs.Form.{wr_form, HasForm, number_at, numbered, is_link, link_at}
-use Rattle.tlv.specs.declared.form.Numbered.{Numbered}
-use Rattle.tlv.specs.declared.form.Numbered.TheVariants.{Number, Other}
 use Rattle.tlv.specs.declared.form.Form.{Form}
 
 pub record OfForm (f : Form) (t : List ℕ) (p : ℕ) : Type 0 where
@@ -29,12 +28,12 @@ of_form f t p e =
     record { kind = eqb-true _ _ p1.0; size = leb-true _ _ p1.1; six = eqb-true _ _ p2.1 }
 
 -- a test that no TLV without a number passes, passed
-pub of_number : (test : Numbered → Bool) → test Other ≡ false → (magic : ℕ) (t : List ℕ) (p : ℕ) → test (numbered magic t p) ≡ true
+pub of_number : (test : Option ℕ → Bool) → test None ≡ false → (magic : ℕ) (t : List ℕ) (p : ℕ) → test (numbered magic t p) ≡ true
     → OfForm (wr_form magic) t p
 unfolding numbered
 of_number test other magic t p e = of_form (wr_form magic) t p (by (HasForm (wr_form magic) t p) e)
   where
-    by : (b : Bool) → test (pick b (Number (number_at t p)) Other) ≡ true → b ≡ true
+    by : (b : Bool) → test (pick b (Some (number_at t p)) None) ≡ true → b ≡ true
     by true h = refl
     by false h = absurd (let z : ◌≡◌ {A = ℕ} 0 1 = cc in omega arith)
 

@@ -1,6 +1,7 @@
 -- Found means reached: what a search finds is a TLV that the walk comes to, and the first that passes the test; nothing is
 -- found exactly where no TLV passes it; a tail is whole exactly where the walk comes to its end, and else breaks off where the
 -- walk can go no further.
+use Rattle.std.specs.Prelude.{Option, Some, None}
 use Prim.Native.Nat.{ℕ, ◌+◌, ◌%◌, ◌<◌, ◌≤◌}
 use mathlib.Core.Path.{◌≡◌, refl, sym, ap, ◌∙◌}
 use mathlib.Core.List.{List}
@@ -13,12 +14,9 @@ use lib.ListN.{length, take, length-take}
 use Rattle.octets.proofs.Laws.{be_take}
 use Rattle.refusal.specs.Choice.{pick}
 use Rattle.tlv.specs.Walk.{size_at, next_of, broken, first, Reached, start, next, BadAt, leftover, odd, past, BreaksAt, TlvAt, FirstTlv, NoTlv}
-use Rattle.tlv.specs.declared.walk.Next.TheVariants.{At, Bad}
 use Rattle.tlv.specs.Form.{suffix_at, link_at}
 use Rattle.tlv.specs.Faults.{whole}
 use Rattle.tlv.specs.Wr.{flags_at, suffix_in, link_message_at, link_in}
-use Rattle.tlv.specs.declared.wr.Suffix.TheVariants as suffix
-use Rattle.tlv.specs.declared.wr.LinkFound.TheVariants as found
 use Rattle.tlv.proofs.WalkLaws.{next_short, next_odd, next_long, next_fits, next_even, next_is, walk_end, walk_bad, walk_more, walk_ind, first_found, first_before}
 
 no_truth : ◌≡◌ {A = Bool} false true → ⊥
@@ -136,16 +134,16 @@ module _ (t : List ℕ) where
   odd_one : (n : ℕ) → (n % 2 ≡ 0 → ⊥) → n % 2 ≡ 1
   odd_one n h = omega arith
 
-  no_at : {q : ℕ} → At q ≡ Bad → ⊥
+  no_at : {q : ℕ} → ◌≡◌ {A = Option ℕ} (Some q) None → ⊥
   no_at e = let z : ◌≡◌ {A = ℕ} 0 1 = cc in omega arith
 
   -- where the walk cannot step, one of three things stands
-  no_step : (p : ℕ) → p < length t → next_of t p ≡ Bad → BadAt t p
+  no_step : (p : ℕ) → p < length t → next_of t p ≡ None → BadAt t p
   unfolding next_of
   no_step p l = by (leb (p + 4) (length t)) (eqb (size_at t p % 2) 0) (leb (p + 4 + size_at t p) (length t)) refl refl refl
     where
       by : (a b d : Bool) → leb (p + 4) (length t) ≡ a → eqb (size_at t p % 2) 0 ≡ b → leb (p + 4 + size_at t p) (length t) ≡ d
-          → next_of t p ≡ Bad → BadAt t p
+          → next_of t p ≡ None → BadAt t p
       by false b d ea eb ed e = leftover l (leb-false (p + 4) (length t) ea)
       by true false d ea eb ed e =
           let n = eqb-false (size_at t p % 2) 0 eb in odd (leb-true (p + 4) (length t) ea) (odd_one (size_at t p) n)
@@ -159,7 +157,7 @@ module _ (t : List ℕ) where
   bad_inside (odd l h) = omega arith
   bad_inside (past l e h) = omega arith
 
-  bad_step : {p : ℕ} → BadAt t p → next_of t p ≡ Bad
+  bad_step : {p : ℕ} → BadAt t p → next_of t p ≡ None
   bad_step {p} (leftover l h) = next_short t p h
   bad_step {p} (odd l h) = next_odd t p l (λ e. omega (arith, e, h))
   bad_step {p} (past l e h) = next_long t p l e h
@@ -203,7 +201,7 @@ module _ (t : List ℕ) (k : ℕ) (h : k ≤ length t) where
       let n = cut_length in
       let e : size_at (take k t) p % 2 ≡ 0 = rw s (next_even t p m) in
       let q-is : p + 4 + size_at (take k t) p ≡ q = omega arith in
-      next (reached_cut r (omega arith)) (omega arith) (next_is (take k t) p (omega arith) e (omega arith) ∙ ap At q-is)
+      next (reached_cut r (omega arith)) (omega arith) (next_is (take k t) p (omega arith) e (omega arith) ∙ ap Some q-is)
 
   pub whole_cut : Reached t k → whole (take k t) ≡ true
   whole_cut r = let n = cut_length in reached_whole (take k t) (rw n (reached_cut r (omega arith)))
@@ -211,19 +209,19 @@ module _ (t : List ℕ) (k : ℕ) (h : k ≤ length t) where
 -- ---- the suffix and the link message that count
 module _ (magic : ℕ) (t : List ℕ) where
   -- "The first ANN_SUFIX counts."
-  pub suffix_counts : {p : ℕ} → FirstTlv (suffix_at magic t) t p → suffix_in magic t ≡ suffix.Flags (flags_at t p)
+  pub suffix_counts : {p : ℕ} → FirstTlv (suffix_at magic t) t p → suffix_in magic t ≡ Some (flags_at t p)
   unfolding suffix_in
   suffix_counts {p} v = rw (first_is (suffix_at magic t) t v, lt-ltb p (length t) v.at.inside)
 
-  pub suffix_absent : NoTlv (suffix_at magic t) t → suffix_in magic t ≡ suffix.Absent
+  pub suffix_absent : NoTlv (suffix_at magic t) t → suffix_in magic t ≡ None
   unfolding suffix_in
   suffix_absent h = rw (none_absent (suffix_at magic t) t h, le-ltb (length t) (length t) (omega arith))
 
   -- the first link message counts
-  pub link_counts : {p : ℕ} → FirstTlv (link_at magic t) t p → link_in magic t ≡ found.Message (link_message_at t p)
+  pub link_counts : {p : ℕ} → FirstTlv (link_at magic t) t p → link_in magic t ≡ Some (link_message_at t p)
   unfolding link_in
   link_counts {p} v = rw (first_is (link_at magic t) t v, lt-ltb p (length t) v.at.inside)
 
-  pub link_absent : NoTlv (link_at magic t) t → link_in magic t ≡ found.Absent
+  pub link_absent : NoTlv (link_at magic t) t → link_in magic t ≡ None
   unfolding link_in
   link_absent h = rw (none_absent (link_at magic t) t h, le-ltb (length t) (length t) (omega arith))

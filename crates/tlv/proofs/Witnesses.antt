@@ -1,5 +1,6 @@
 -- Tails written out octet by octet, with 01's numbers and all values different, and what the walk and White Rabbit's form make of them. A place, a size or
 -- a number that is changed breaks a table, also where definition and code are changed alike.
+use Rattle.std.specs.Prelude.{Some, None, Ok, Err}
 use Prim.Native.Nat.{ℕ, ◌+◌, ◌/◌, ◌%◌}
 use mathlib.Core.Path.{◌≡◌, refl}
 use mathlib.Core.Bool.{true, false}
@@ -12,12 +13,8 @@ use Rattle.tlv.specs.Form.{HasForm, data_octets, numbered, misfit_at, suffix_at,
 use Rattle.tlv.specs.Numbers.{link_number}
 use Rattle.tlv.specs.Faults.{fault_of, is_sound}
 use Rattle.tlv.specs.Wr.{suffix_in, wr_flags_of, link_message_at, link_in}
-use Rattle.tlv.specs.declared.form.DataSize.TheVariants.{Octets, Unlisted}
-use Rattle.tlv.specs.declared.walk.Next.TheVariants.{At, Bad}
-use Rattle.tlv.specs.declared.walk.Fault.TheVariants.{Sound, Broken, Misfit}
-use Rattle.tlv.specs.declared.wr.Suffix.TheVariants as suffix
+use Rattle.tlv.specs.declared.walk.Fault.TheVariants.{Broken, Misfit}
 use Rattle.tlv.specs.declared.wr.LinkMessage.TheVariants.{SlavePresent, Lock, Locked, Calibrate, Calibrated, ModeOn}
-use Rattle.tlv.specs.declared.wr.LinkFound.TheVariants as found
 
 -- three TLVs at 0, 6 and 14 of 18 octets: type 8 with two octets of data, type 0x2004 with four, type 8 again with none
 abbrev three : List ℕ
@@ -58,7 +55,7 @@ pub record Walked : Type 0 where
       ≡ 0 ∷ 6 ∷ 18 ∷ 18 ∷ 18 ∷ []
   pub parts : map (data_at three) (0 ∷ 6 ∷ 14 ∷ 18 ∷ [])
       ≡ (0x51 ∷ 0x52 ∷ []) ∷ (0x53 ∷ 0x54 ∷ 0x55 ∷ 0x56 ∷ []) ∷ [] ∷ [] ∷ []
-  pub ends : map (next_of three) (0 ∷ 6 ∷ 14 ∷ 15 ∷ 18 ∷ []) ≡ At 6 ∷ At 14 ∷ At 18 ∷ Bad ∷ Bad ∷ []
+  pub ends : map (next_of three) (0 ∷ 6 ∷ 14 ∷ 15 ∷ 18 ∷ []) ≡ Some 6 ∷ Some 14 ∷ Some 18 ∷ None ∷ None ∷ []
 
 pub walked : Walked
 unfolding walk walk_by next_of be
@@ -67,19 +64,19 @@ walked = record { places = refl; parts = refl; ends = refl }
 -- what is wrong with a tail, and where
 pub record Faults : Type 0 where
   pub none : map (fault_of 0xABCD) ([] ∷ three ∷ suffix_tlv ∷ (three ++ suffix_tlv) ∷ short_tlv ∷ [])
-      ≡ Sound ∷ Sound ∷ Sound ∷ Sound ∷ Sound ∷ []
+      ≡ Ok tt ∷ Ok tt ∷ Ok tt ∷ Ok tt ∷ Ok tt ∷ []
   -- one, two and three octets are left over
   pub left_over : map (λ (rest : List ℕ). fault_of 0xABCD (three ++ rest)) ((0x00 ∷ []) ∷ (0x00 ∷ 0x08 ∷ []) ∷ (0x00 ∷ 0x08 ∷ 0x00 ∷ []) ∷ [])
-      ≡ Broken 18 ∷ Broken 18 ∷ Broken 18 ∷ []
+      ≡ Err (Broken 18) ∷ Err (Broken 18) ∷ Err (Broken 18) ∷ []
   -- a length of 3, one of 2 where nothing follows, and the first one of 13, 14, 16 and 258; 14 takes the tail whole
   pub lengths : map (fault_of 0xABCD) (set three 9 3 ∷ set three 17 2 ∷ set three 3 13 ∷ set three 3 14 ∷ set three 3 16 ∷ set three 2 1 ∷ [])
-      ≡ Broken 6 ∷ Broken 14 ∷ Broken 0 ∷ Sound ∷ Broken 0 ∷ Broken 0 ∷ []
+      ≡ Err (Broken 6) ∷ Err (Broken 14) ∷ Err (Broken 0) ∷ Ok tt ∷ Err (Broken 0) ∷ Err (Broken 0) ∷ []
   -- the first misfit counts, and a break behind it before that
   pub misfits : map (fault_of 0xABCD) (wrong_tlv ∷ (three ++ wrong_tlv) ∷ (suffix_tlv ++ wrong_tlv ++ wrong_tlv) ∷ (wrong_tlv ++ 0x00 ∷ []) ∷ [])
-      ≡ Misfit 0 ∷ Misfit 18 ∷ Misfit 14 ∷ Broken 16 ∷ []
+      ≡ Err (Misfit 0) ∷ Err (Misfit 18) ∷ Err (Misfit 14) ∷ Err (Broken 16) ∷ []
   -- "Other TLVs .., versions and numbers are passed over": one octet of type, OUI, magic, version or number is another
   pub others : map (λ (i : ℕ). fault_of 0xABCD (set wrong_tlv i 0x77)) (0 ∷ 1 ∷ 4 ∷ 5 ∷ 6 ∷ 7 ∷ 8 ∷ 9 ∷ 10 ∷ 11 ∷ [])
-      ≡ Sound ∷ Sound ∷ Sound ∷ Sound ∷ Sound ∷ Sound ∷ Sound ∷ Sound ∷ Sound ∷ Sound ∷ []
+      ≡ Ok tt ∷ Ok tt ∷ Ok tt ∷ Ok tt ∷ Ok tt ∷ Ok tt ∷ Ok tt ∷ Ok tt ∷ Ok tt ∷ Ok tt ∷ []
 
 pub faults : Faults
 unfolding fault_of misfit_at numbered HasForm data_octets walk walk_by next_of be
@@ -91,7 +88,7 @@ faults = record { none = refl; left_over = refl; lengths = refl; misfits = refl;
 -- and numbers beside them, which are passed over
 pub record Sizes : Type 0 where
   pub octets : map data_octets (0x1000 ∷ 0x1001 ∷ 0x1002 ∷ 0x1003 ∷ 0x1004 ∷ 0x1005 ∷ 0x2000 ∷ 0x0FFF ∷ 0x1006 ∷ 0x2001 ∷ [])
-      ≡ Octets 0 ∷ Octets 0 ∷ Octets 0 ∷ Octets 6 ∷ Octets 16 ∷ Octets 0 ∷ Octets 2 ∷ Unlisted ∷ Unlisted ∷ Unlisted ∷ []
+      ≡ Some 0 ∷ Some 0 ∷ Some 0 ∷ Some 6 ∷ Some 16 ∷ Some 0 ∷ Some 2 ∷ None ∷ None ∷ None ∷ []
   -- each number with data of 0, 2, 6 and 16 octets
   pub sound : map (λ (number : ℕ). map (λ (n : ℕ). is_sound 0xABCD (sized number n)) (0 ∷ 2 ∷ 6 ∷ 16 ∷ [])) (0x1000 ∷ 0x1001 ∷ 0x1002 ∷ 0x1003 ∷ 0x1004 ∷ 0x1005 ∷ 0x2000 ∷ 0x1006 ∷ [])
       ≡ (true ∷ false ∷ false ∷ false ∷ [])
@@ -113,29 +110,29 @@ sizes = record { octets = refl; sound = refl }
 pub record Said : Type 0 where
   -- "wrFlags: bits 0-1 config, 2 calibrated, 3 mode on, rest reserved"; "The first ANN_SUFIX counts."
   pub flags : map (suffix_in 0xABCD) (suffix_tlv ∷ (three ++ suffix_tlv ++ wr 0x2000 2 (0x00 ∷ 0x09 ∷ [])) ∷ wr 0x2000 2 (0x00 ∷ 0x1F ∷ []) ∷ [])
-      ≡ suffix.Flags 6 ∷ suffix.Flags 6 ∷ suffix.Flags 15 ∷ []
+      ≡ Some 6 ∷ Some 6 ∷ Some 15 ∷ []
   -- none: no TLV, others, a link message, L under 8
   pub no_flags : map (suffix_in 0xABCD) ([] ∷ three ∷ sized 0x1003 6 ∷ short_tlv ∷ [])
-      ≡ suffix.Absent ∷ suffix.Absent ∷ suffix.Absent ∷ suffix.Absent ∷ []
+      ≡ None ∷ None ∷ None ∷ None ∷ []
   -- one octet of type, OUI, magic, version or number is another, or the magic that is set
   pub passed_over : map (λ (i : ℕ). suffix_in 0xABCD (set suffix_tlv i 0x77)) (0 ∷ 1 ∷ 4 ∷ 5 ∷ 6 ∷ 7 ∷ 8 ∷ 9 ∷ 10 ∷ 11 ∷ [])
-      ≡ suffix.Absent ∷ suffix.Absent ∷ suffix.Absent ∷ suffix.Absent ∷ suffix.Absent ∷ suffix.Absent ∷ suffix.Absent ∷ suffix.Absent ∷ suffix.Absent ∷ suffix.Absent ∷ []
+      ≡ None ∷ None ∷ None ∷ None ∷ None ∷ None ∷ None ∷ None ∷ None ∷ None ∷ []
   pub magics : map (λ (magic : ℕ). suffix_in magic (set suffix_tlv 8 0xCE)) (0xABCD ∷ 0xABCE ∷ [])
-      ≡ suffix.Absent ∷ suffix.Flags 6 ∷ []
+      ≡ None ∷ Some 6 ∷ []
   -- "An Announce without the suffix counts as a plain PTP master, wrFlags 0."
-  pub plain : map wr_flags_of (suffix.Flags 6 ∷ suffix.Absent ∷ []) ≡ 6 ∷ 0 ∷ []
+  pub plain : map wr_flags_of (Some 6 ∷ None ∷ []) ≡ 6 ∷ 0 ∷ []
   -- "CALIBRATE .. (pattern 1, retry 1, period 4); CALIBRATED .. (deltaTx 8, deltaRx 8)"
   pub messages : map (link_in 0xABCD) (sized 0x1000 0 ∷ sized 0x1001 0 ∷ sized 0x1002 0 ∷ sized 0x1003 6 ∷ sized 0x1004 16 ∷ sized 0x1005 0 ∷ (three ++ suffix_tlv ++ sized 0x1003 6 ++ sized 0x1001 0) ∷ [])
-      ≡ found.Message SlavePresent
-      ∷ found.Message Lock
-      ∷ found.Message Locked
-      ∷ found.Message (Calibrate 0x71 0x72 0x73747576)
-      ∷ found.Message (Calibrated 0x7172737475767778 0x797A7B7C7D7E7F80)
-      ∷ found.Message ModeOn
-      ∷ found.Message (Calibrate 0x71 0x72 0x73747576)
+      ≡ Some SlavePresent
+      ∷ Some Lock
+      ∷ Some Locked
+      ∷ Some (Calibrate 0x71 0x72 0x73747576)
+      ∷ Some (Calibrated 0x7172737475767778 0x797A7B7C7D7E7F80)
+      ∷ Some ModeOn
+      ∷ Some (Calibrate 0x71 0x72 0x73747576)
       ∷ []
   pub no_message : map (link_in 0xABCD) ([] ∷ three ∷ suffix_tlv ∷ sized 0x0FFF 0 ∷ sized 0x1006 0 ∷ [])
-      ≡ found.Absent ∷ found.Absent ∷ found.Absent ∷ found.Absent ∷ found.Absent ∷ []
+      ≡ None ∷ None ∷ None ∷ None ∷ None ∷ []
   pub numbers : map link_number (SlavePresent ∷ Lock ∷ Locked ∷ Calibrate 1 2 3 ∷ Calibrated 4 5 ∷ ModeOn ∷ [])
       ≡ 0x1000 ∷ 0x1001 ∷ 0x1002 ∷ 0x1003 ∷ 0x1004 ∷ 0x1005 ∷ []
 

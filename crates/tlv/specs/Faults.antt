@@ -1,5 +1,5 @@
 -- What a walk looks for, and the faults of a tail (01, "Numbers that refuse", 6 and 7).
-use Rattle.std.specs.Prelude.{ℕ, List, Bool, true, false, ◌&&◌, length, eqb, ltb}
+use Rattle.std.specs.Prelude.{ℕ, List, Bool, true, false, ◌&&◌, length, eqb, ltb, Option, Some, None, Result, Ok, Err}
 use Rattle.refusal.specs.Choice.{pick}
 use Rattle.tlv.specs.Walk.{type_at, broken, first}
 use Rattle.tlv.specs.Form.{misfit_at, suffix_at, link_at}
@@ -7,8 +7,6 @@ use Rattle.tlv.specs.declared.walk.Sought.{Sought}
 use Rattle.tlv.specs.declared.walk.Sought.TheVariants.{OfType, Suffix, Link}
 use Rattle.tlv.specs.declared.walk.Fault.{Fault}
 use Rattle.tlv.specs.declared.walk.Fault.TheVariants as fault
-use Rattle.tlv.specs.declared.walk.Sound.{Sound}
-use Rattle.tlv.specs.declared.walk.Sound.TheVariants.{FirstAt, Faulty}
 
 -- what a walk looks for
 abbrev pub sought_at : Sought → List ℕ → ℕ → Bool
@@ -25,27 +23,27 @@ abbrev pub misfit : ℕ → List ℕ → ℕ → ℕ
 misfit magic t p = first (misfit_at magic t) t p
 
 -- "6, 7", with the place "of the first TLV with that fault or of a leftover of one to three octets"
-unfoldable pub fault_of : ℕ → List ℕ → Fault
+unfoldable pub fault_of : ℕ → List ℕ → Result (Unit {0}) Fault
 fault_of magic t =
     pick (whole t)
-    (pick (eqb (misfit magic t 0) (length t)) fault.Sound (fault.Misfit (misfit magic t 0)))
-    (fault.Broken (broken t 0))
+    (pick (eqb (misfit magic t 0) (length t)) (Ok tt) (Err (fault.Misfit (misfit magic t 0))))
+    (Err (fault.Broken (broken t 0)))
 
-abbrev pub is_fault : Fault → Bool
-is_fault fault.Sound = false
-is_fault (fault.Broken p) = true
-is_fault (fault.Misfit p) = true
+abbrev pub is_fault : Result (Unit {0}) Fault → Bool
+is_fault (Ok tt) = false
+is_fault (Err (fault.Broken p)) = true
+is_fault (Err (fault.Misfit p)) = true
 
 -- nothing is wrong with a tail
 unfoldable pub is_sound : ℕ → List ℕ → Bool
 is_sound magic t = whole t && eqb (misfit magic t 0) (length t)
 
 -- where the first TLV that passes a test stands in such a tail
-unfoldable pub sound_of : ℕ → (ℕ → Bool) → List ℕ → Sound
+unfoldable pub sound_of : ℕ → (ℕ → Bool) → List ℕ → Option ℕ
 sound_of magic test t =
     pick (whole t)
-    (pick (eqb (misfit magic t 0) (length t)) (FirstAt (first test t 0)) Faulty)
-    Faulty
+    (pick (eqb (misfit magic t 0) (length t)) (Some (first test t 0)) None)
+    None
 
 -- ---- WHAT ONLY THE CODE NEEDS: steps on the way to the answers above, and no rule of 01
 

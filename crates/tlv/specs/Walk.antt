@@ -1,10 +1,8 @@
 -- The walk over the TLVs of a tail t (01, "Octets of a message": "type 2, length L 2, L octets", "whole TLVs of even
 -- length"). Places are counted from the tail's start, and `length t` is its end.
-use Rattle.std.specs.Prelude.{ℕ, zero, suc, ◌+◌, ◌%◌, ◌<◌, ◌≤◌, ◌≡◌, List, [], Bool, true, false, length, take, drop, eqb, leb, ltb}
+use Rattle.std.specs.Prelude.{ℕ, zero, suc, ◌+◌, ◌%◌, ◌<◌, ◌≤◌, ◌≡◌, List, [], Bool, true, false, length, take, drop, eqb, leb, ltb, Option, Some, None}
 use Rattle.octets.specs.Be.{be}
 use Rattle.refusal.specs.Choice.{pick}
-use Rattle.tlv.specs.declared.walk.Next.{Next}
-use Rattle.tlv.specs.declared.walk.Next.TheVariants.{At, Bad}
 
 -- the type of the TLV at p
 abbrev pub type_at : List ℕ → ℕ → ℕ
@@ -19,17 +17,17 @@ pub record Fits (t : List ℕ) (p : ℕ) : Type 0 where
   pub fits : p + 4 + size_at t p ≤ length t
 
 -- where the TLV at p ends, if it is whole and of even length
-unfoldable pub next_of : List ℕ → ℕ → Next
+unfoldable pub next_of : List ℕ → ℕ → Option ℕ
 next_of t p =
     pick (leb (p + 4) (length t))
     (pick (eqb (size_at t p % 2) 0)
-    (pick (leb (p + 4 + size_at t p) (length t)) (At (p + 4 + size_at t p)) Bad)
-    Bad)
-    Bad
+    (pick (leb (p + 4 + size_at t p) (length t)) (Some (p + 4 + size_at t p)) None)
+    None)
+    None
 
-abbrev pub after : {A : Type 0} → Next → A → (ℕ → A) → A
-after (At p) bad k = k p
-after Bad bad k = bad
+abbrev pub after : {A : Type 0} → Option ℕ → A → (ℕ → A) → A
+after (Some p) bad k = k p
+after None bad k = bad
 
 -- The walk from p to the end, its TLVs taken together from the last to the first: `end` at the end, `bad p` where no
 -- whole TLV of even length stands at p, and `cons p r` of a TLV at p and what the rest gives. A TLV takes four octets
@@ -59,7 +57,7 @@ data_at t p = pick (ltb p (length t)) (take (size_at t p) (drop (p + 4) t)) []
 -- the places that the walk comes to
 pub data Reached (t : List ℕ) : ℕ → Type 0 where
   start : Reached t 0
-  next : {p q : ℕ} → Reached t p → p < length t → next_of t p ≡ At q → Reached t q
+  next : {p q : ℕ} → Reached t p → p < length t → next_of t p ≡ Some q → Reached t q
 
 -- before the end, no whole TLV of even length stands at p
 pub data BadAt (t : List ℕ) (p : ℕ) : Type 0 where
@@ -80,7 +78,7 @@ pub record TlvAt (t : List ℕ) (p : ℕ) : Type 0 where
   pub reached : Reached t p
   pub inside : p < length t
   pub end : ℕ
-  pub whole : next_of t p ≡ At end
+  pub whole : next_of t p ≡ Some end
 
 -- the first TLV of the tail that passes a test
 pub record FirstTlv (test : ℕ → Bool) (t : List ℕ) (p : ℕ) : Type 0 where

@@ -1,35 +1,31 @@
 -- What White Rabbit's TLVs say (01, "Octets of a message").
-use Rattle.std.specs.Prelude.{ℕ, ◌+◌, ◌%◌, List, length, get_or, eqb, ltb}
+use Rattle.std.specs.Prelude.{ℕ, ◌+◌, ◌%◌, List, length, get_or, eqb, ltb, Option, Some, None}
 use Rattle.octets.specs.Be.{be}
 use Rattle.refusal.specs.Choice.{pick}
 use Rattle.tlv.specs.Walk.{first}
 use Rattle.tlv.specs.Numbers.{SLAVE-PRESENT, LOCK, LOCKED, CALIBRATE, CALIBRATED}
 use Rattle.tlv.specs.Form.{number_at, suffix_at, link_at}
-use Rattle.tlv.specs.declared.wr.Suffix.{Suffix}
-use Rattle.tlv.specs.declared.wr.Suffix.TheVariants.{Flags, Absent}
 use Rattle.tlv.specs.declared.wr.LinkMessage.{LinkMessage}
 use Rattle.tlv.specs.declared.wr.LinkMessage.TheVariants.{SlavePresent, Lock, Locked, Calibrate, Calibrated, ModeOn}
-use Rattle.tlv.specs.declared.wr.LinkFound.{LinkFound}
-use Rattle.tlv.specs.declared.wr.LinkFound.TheVariants as found
 
 -- "wrFlags: bits 0-1 config, 2 calibrated, 3 mode on, rest reserved"
 abbrev pub flags_at : List ℕ → ℕ → ℕ
 flags_at t p = be 2 t (p + 12) % 16
 
 -- what a suffix at p says, none at the end
-abbrev pub suffix_as : List ℕ → ℕ → Suffix
-suffix_as t p = pick (ltb p (length t)) (Flags (flags_at t p)) Absent
+abbrev pub suffix_as : List ℕ → ℕ → Option ℕ
+suffix_as t p = pick (ltb p (length t)) (Some (flags_at t p)) None
 
 -- "The first ANN_SUFIX counts."
-unfoldable pub suffix_in : ℕ → List ℕ → Suffix
+unfoldable pub suffix_in : ℕ → List ℕ → Option ℕ
 suffix_in magic t =
     let p = first (suffix_at magic t) t 0 in
     suffix_as t p
 
 -- "An Announce without the suffix counts as a plain PTP master, wrFlags 0."
-abbrev pub wr_flags_of : Suffix → ℕ
-wr_flags_of (Flags n) = n
-wr_flags_of Absent = 0
+abbrev pub wr_flags_of : Option ℕ → ℕ
+wr_flags_of (Some n) = n
+wr_flags_of None = 0
 
 -- "CALIBRATE .. (pattern 1, retry 1, period 4); CALIBRATED .. (deltaTx 8, deltaRx 8)"
 unfoldable pub link_message_at : List ℕ → ℕ → LinkMessage
@@ -43,7 +39,7 @@ link_message_at t p =
     ModeOn))))
 
 -- the first link message
-unfoldable pub link_in : ℕ → List ℕ → LinkFound
+unfoldable pub link_in : ℕ → List ℕ → Option LinkMessage
 link_in magic t =
     let p = first (link_at magic t) t 0 in
-    pick (ltb p (length t)) (found.Message (link_message_at t p)) found.Absent
+    pick (ltb p (length t)) (Some (link_message_at t p)) None

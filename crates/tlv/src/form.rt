@@ -12,20 +12,6 @@ pub struct Form {
     pub six: u64,
 }
 
-// How many octets of data a message has, by its number.
-#[derive(Clone, Copy)]
-pub enum DataSize {
-    Octets(u16),
-    Unlisted,
-}
-
-// The number of a TLV in White Rabbit form; any other TLV has none.
-#[derive(Clone, Copy)]
-pub enum Numbered {
-    Number(u16),
-    Other,
-}
-
 pub const SLAVE_PRESENT: u16 = 0x1000;
 
 pub const LOCK: u16 = 0x1001;
@@ -68,59 +54,59 @@ fn has_form(t: &[u8], at: usize, l: usize, f: Form) -> bool
     octets::held::u32_at(t, at + 4) as u64 == f.six / 65536
 }
 
-pub fn data_size(number: u16) -> DataSize
+pub fn data_size(number: u16) -> Option<u16>
     ensures { result ≡ data_octets number }
 {
     match number {
-        SLAVE_PRESENT => DataSize::Octets(0),
-        LOCK => DataSize::Octets(0),
-        LOCKED => DataSize::Octets(0),
-        CALIBRATE => DataSize::Octets(6),
-        CALIBRATED => DataSize::Octets(16),
-        MODE_ON => DataSize::Octets(0),
-        ANN_SUFIX => DataSize::Octets(2),
-        _ => DataSize::Unlisted,
+        SLAVE_PRESENT => Some(0),
+        LOCK => Some(0),
+        LOCKED => Some(0),
+        CALIBRATE => Some(6),
+        CALIBRATED => Some(16),
+        MODE_ON => Some(0),
+        ANN_SUFIX => Some(2),
+        _ => None,
     }
 }
 
 // Whether L is wrong for a message with data of that size: L = 8 + N.
-fn wrong_size(size: DataSize, l: usize) -> bool
+fn wrong_size(size: Option<u16>, l: usize) -> bool
     ensures { result ≡ is_misfit size l }
 {
     match size {
-        DataSize::Octets(n) => l != 8 + n as usize,
-        DataSize::Unlisted => false,
+        Some(n) => l != 8 + n as usize,
+        None => false,
     }
 }
 
 // The number of the TLV at `at`, whose length is `l`, if it is in White Rabbit form.
-pub fn number_at(t: &[u8], at: usize, l: usize, magic: u16) -> Numbered
+pub fn number_at(t: &[u8], at: usize, l: usize, magic: u16) -> Option<u16>
     requires fits { Fits t.now at }
     requires l_value { l ≡ size_at t.now at }
     ensures { result ≡ numbered magic t.now at }
 {
     if has_form(t, at, l, wr_form(magic)) {
-        return Numbered::Number(octets::held::u16_at(t, at + 10));
+        return Some(octets::held::u16_at(t, at + 10));
     }
-    Numbered::Other
+    None
 }
 
 // Whether a TLV of length `l` is a known message with a wrong data size.
-pub fn misfits(x: Numbered, l: usize) -> bool
+pub fn misfits(x: Option<u16>, l: usize) -> bool
     ensures { result ≡ misfit_by x l }
 {
     match x {
-        Numbered::Number(n) => wrong_size(data_size(n), l),
-        Numbered::Other => false,
+        Some(n) => wrong_size(data_size(n), l),
+        None => false,
     }
 }
 
 // Whether a TLV is an ANN_SUFIX.
-pub fn is_suffix(x: Numbered) -> bool
+pub fn is_suffix(x: Option<u16>) -> bool
     ensures { result ≡ is_suffix x }
 {
     match x {
-        Numbered::Number(n) => n == ANN_SUFIX,
-        Numbered::Other => false,
+        Some(n) => n == ANN_SUFIX,
+        None => false,
     }
 }

@@ -6,13 +6,6 @@ ghost use Rattle.tlv.specs.Faults.{later_of, fault_of, sound_of};
 
 use crate::form;
 
-// Where a TLV ends, or that no whole TLV of even length stands there.
-#[derive(Clone, Copy)]
-pub enum Next {
-    At(usize),
-    Bad,
-}
-
 // What a walk looks for: a TLV of a type, a suffix or a link message under a magic.
 #[derive(Clone, Copy)]
 pub enum Sought {
@@ -25,34 +18,25 @@ pub enum Sought {
 // data of a wrong size.
 #[derive(Clone, Copy)]
 pub enum Fault {
-    Sound,
     Broken(usize),
     Misfit(usize),
 }
 
-// Where the first TLV that is looked for stands in a tail in which nothing is wrong, its end where it has none; or that
-// something is.
-#[derive(Clone, Copy)]
-pub enum Sound {
-    FirstAt(usize),
-    Faulty,
-}
-
 // What stands at a place: a TLV, or none.
-pub fn step(t: &[u8], at: usize) -> Next
+pub fn step(t: &[u8], at: usize) -> Option<usize>
     requires { at ≤ length t.now }
     ensures { result ≡ next_of t.now at }
 {
     if t.len() - at < 4 {
-        return Next::Bad;
+        return None;
     }
     let n = octets::held::u16_at(t, at + 2) as usize;
     if n % 2 == 0 {
         if n <= t.len() - at - 4 {
-            return Next::At(at + 4 + n);
+            return Some(at + 4 + n);
         }
     }
-    Next::Bad
+    None
 }
 
 // The first place so far that passed a test, the end while there is none: `at` where that passes and no other came before.
@@ -69,14 +53,14 @@ pub fn later(end: usize, so_far: usize, at: usize, passes: bool) -> usize
 }
 
 // What is wrong with a tail, found in one walk. That it breaks off counts before a misfit, wherever the two stand.
-pub fn first_fault(t: &[u8], magic: u16) -> Fault
+pub fn first_fault(t: &[u8], magic: u16) -> Result<(), Fault>
     ensures { result ≡ fault_of magic t.now }
 {
     let mut misfit = t.len();
     let mut at: usize = 0;
     while at < t.len() {
-        let Next::At(p) = step(t, at) else {
-            return Fault::Broken(at);
+        let Some(p) = step(t, at) else {
+            return Err(Fault::Broken(at));
         };
         let l = p - at - 4;
         let x = form::number_at(t, at, l, magic);
@@ -84,32 +68,32 @@ pub fn first_fault(t: &[u8], magic: u16) -> Fault
         at = p;
     }
     if misfit < t.len() {
-        return Fault::Misfit(misfit);
+        return Err(Fault::Misfit(misfit));
     }
-    Fault::Sound
+    Ok(())
 }
 
 // Where the first suffix stands in a sound tail. This is for a reader that hopes that nothing is wrong: it ends at the first
 // thing that is, and does not say what. It has one caller and is made one piece with it. That a TLV is a suffix is settled before `later` is asked: the compiler
 // then looks at the number once, for this and the size.
-pub fn sound_suffix(t: &[u8], magic: u16) -> Sound
+pub fn sound_suffix(t: &[u8], magic: u16) -> Option<usize>
     ensures { result ≡ sound_of magic (suffix_at magic t.now) t.now }
 {
     let mut suffix = t.len();
     let mut at: usize = 0;
     while at < t.len() {
-        let Next::At(p) = step(t, at) else {
-            return Sound::Faulty;
+        let Some(p) = step(t, at) else {
+            return None;
         };
         let l = p - at - 4;
         let x = form::number_at(t, at, l, magic);
         if form::misfits(x, l) {
-            return Sound::Faulty;
+            return None;
         }
         if form::is_suffix(x) {
             suffix = later(t.len(), suffix, at, true);
         }
         at = p;
     }
-    Sound::FirstAt(suffix)
+    Some(suffix)
 }

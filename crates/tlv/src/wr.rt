@@ -3,13 +3,6 @@
 ghost use Rattle.std.specs.Prelude.{◌≡◌};
 ghost use Rattle.tlv.specs.Wr.{suffix_as, wr_flags_of};
 
-// The suffix of an Announce, or that it has none.
-#[derive(Clone, Copy)]
-pub enum Suffix {
-    Flags(u16),
-    Absent,
-}
-
 // The six messages that bring a link up, with what they carry.
 #[derive(Clone, Copy)]
 pub enum LinkMessage {
@@ -21,27 +14,21 @@ pub enum LinkMessage {
     ModeOn,
 }
 
-#[derive(Clone, Copy)]
-pub enum LinkFound {
-    Message(LinkMessage),
-    Absent,
-}
-
 // The ANN_SUFIX that a walk found at `p`, none at the end. Of its wrFlags the four bits that mean something are kept.
-pub fn suffix_at(t: &[u8], p: usize) -> Suffix
+pub fn suffix_at(t: &[u8], p: usize) -> Option<u16>
     ensures { result ≡ suffix_as t.now p }
 {
     if p < t.len() {
-        return Suffix::Flags(octets::u16_at(t, p + 12) % 16);
+        return Some(octets::u16_at(t, p + 12) % 16);
     }
-    Suffix::Absent
+    None
 }
 
 // wrFlags; an Announce without the suffix counts as a plain PTP master, wrFlags 0.
-pub fn wr_flags(x: Suffix) -> u16
+pub fn wr_flags(x: Option<u16>) -> u16
     ensures { result ≡ wr_flags_of x }
 {
-    let Suffix::Flags(flags) = x else {
+    let Some(flags) = x else {
         return 0;
     };
     flags

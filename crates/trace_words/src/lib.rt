@@ -4,22 +4,21 @@
 ghost use Rattle.std.specs.Prelude.{◌≡◌};
 ghost use Rattle.trace_words.specs.Answers.{recorded_code, recorded_words, finished_words, replayed_code, replayed_words, place_words, next_words};
 
-use judging::walking::{Next, Place};
-use playback::Replayed;
-use recording::Recorded;
+use refusal::Refusal;
+use judging::walking::Place;
 
 // Whether a block came out: 1 or 0.
-pub fn put_recorded(out: &mut [u64; 1], x: Recorded) -> u64
+pub fn put_recorded(out: &mut [u64; 1], x: Result<bool, Refusal>) -> u64
     ensures answer { result ≡ recorded_code x }
     ensures words { out.new ≡ recorded_words x out.old }
 {
     match x {
-        Recorded::Refused(y) => refusal::answer(y),
-        Recorded::Kept => {
+        Err(y) => refusal::answer(y),
+        Ok(false) => {
             *out = [0];
             0
         }
-        Recorded::Closed => {
+        Ok(true) => {
             *out = [1];
             0
         }
@@ -34,13 +33,13 @@ pub fn finished(closed: bool) -> [u64; 1]
 }
 
 // The time of the last record.
-pub fn put_replayed(out: &mut [u64; 1], x: Replayed) -> u64
+pub fn put_replayed(out: &mut [u64; 1], x: Result<u64, Refusal>) -> u64
     ensures answer { result ≡ replayed_code x }
     ensures words { out.new ≡ replayed_words x out.old }
 {
     match x {
-        Replayed::Refused(y) => refusal::answer(y),
-        Replayed::Until(t) => {
+        Err(y) => refusal::answer(y),
+        Ok(t) => {
             *out = [t];
             0
         }
@@ -62,11 +61,11 @@ fn place(p: Place) -> [u64; 6]
 }
 
 // The same, or zeros where there is none.
-pub fn next(x: Next) -> [u64; 6]
+pub fn next(x: Option<Place>) -> [u64; 6]
     ensures { result ≡ next_words x }
 {
     match x {
-        Next::Absent => [0; 6],
-        Next::Found(p) => place(p),
+        None => [0; 6],
+        Some(p) => place(p),
     }
 }

@@ -1,12 +1,11 @@
 -- The records that a recording keeps: none of them is refused, and their times never fall.
+use Rattle.std.specs.Prelude.{Result, Ok, Err}
 use Prim.Native.Nat.{ℕ}
 use mathlib.Core.Path.{◌≡◌, ◌∙◌, refl, sym, ap}
 use mathlib.Core.List.{List, [], ◌∷◌}
 use mathlib.Core.Bool.{Bool, true, ◌&&◌}
 use borrow.Author.Tests.{le-leb}
 use Rattle.laws.proofs.Bools.{cases}
-use Rattle.refusal.specs.declared.Outcome.{Outcome}
-use Rattle.refusal.specs.declared.Outcome.TheVariants as outcome
 use Rattle.block.specs.Layout.{Entry}
 use Rattle.judging.specs.Tests.{is_in_order, last_of as lastTime}
 use Rattle.block.specs.Making.{All, OnPort}
@@ -15,13 +14,14 @@ use Rattle.recording.specs.Refusing.{Taken}
 use Rattle.traces.specs.Taped.{Tape, taped_with, taped_all, fresh_tape, kept_of, IsShort}
 use Rattle.recording.proofs.Refusing.{done}
 use Rattle.traces.proofs.Meaning.{words_stay, not_kept, words_then, kept}
+use Rattle.refusal.specs.declared.Refusal.{Refusal}
 
 -- ---- NONE IS REFUSED
 module _ (P : Entry → Type 0) where
-  kept_step : (t : Tape) (e : Entry) (es : List Entry) → (record_check t.words e ≡ outcome.Done → P e) → All P (kept_of (taped_with t e) es)
-      → (o : Outcome) → record_check t.words e ≡ o → All P (kept_of t (e ∷ es))
-  kept_step t e es p a (outcome.Refused x) r = rw (not_kept t e x r es) a
-  kept_step t e es p a outcome.Done r = rw (kept t e r es) (p r, a)
+  kept_step : (t : Tape) (e : Entry) (es : List Entry) → (record_check t.words e ≡ Ok tt → P e) → All P (kept_of (taped_with t e) es)
+      → (o : Result (Unit {0}) Refusal) → record_check t.words e ≡ o → All P (kept_of t (e ∷ es))
+  kept_step t e es p a (Err x) r = rw (not_kept t e x r es) a
+  kept_step t e es p a (Ok tt) r = rw (kept t e r es) (p r, a)
 
   -- what holds of all that are handed in holds of all that are kept
   pub kept_of_lem : (es : List Entry) (t : Tape) → All P es → All P (kept_of t es)
@@ -44,15 +44,15 @@ kept_on_port = kept_all OnPort (λ ws e w. w.port)
 
 -- ---- TIMES
 -- the last recorded time, after one that is recorded
-last_then : (t : Tape) (e : Entry) → record_check t.words e ≡ outcome.Done → last_of (taped_with t e).words ≡ e.time
+last_then : (t : Tape) (e : Entry) → record_check t.words e ≡ Ok tt → last_of (taped_with t e).words ≡ e.time
 last_then t e r = ap last_of (words_then t e r) ∙ cases (fits t.words e) (λ f. rw f) (λ f. rw f)
 
 last_step : (t : Tape) (e : Entry) (es : List Entry) → last_of (taped_all (taped_with t e) es).words ≡ lastTime (last_of (taped_with t e).words) (kept_of (taped_with t e) es)
-    → (o : Outcome) → record_check t.words e ≡ o → last_of (taped_all t (e ∷ es)).words ≡ lastTime (last_of t.words) (kept_of t (e ∷ es))
+    → (o : Result (Unit {0}) Refusal) → record_check t.words e ≡ o → last_of (taped_all t (e ∷ es)).words ≡ lastTime (last_of t.words) (kept_of t (e ∷ es))
 unfolding taped_all lastTime
-last_step t e es h (outcome.Refused x) r =
+last_step t e es h (Err x) r =
     h ∙ (λ i. lastTime (last_of (words_stay t e x r i)) (sym (not_kept t e x r es) i))
-last_step t e es h outcome.Done r =
+last_step t e es h (Ok tt) r =
     h ∙ ap (λ (n : ℕ). lastTime n (kept_of (taped_with t e) es)) (last_then t e r) ∙ ap (lastTime (last_of t.words)) (sym (kept t e r es))
 
 -- THE SECOND WORD is the time of the last record that was kept
@@ -62,13 +62,13 @@ last_is [] t = refl
 last_is (e ∷ es) t = last_step t e es (last_is es (taped_with t e)) (record_check t.words e) refl
 
 order_step : (t : Tape) (e : Entry) (es : List Entry) → is_in_order (last_of (taped_with t e).words) (kept_of (taped_with t e) es) ≡ true
-    → (o : Outcome) → record_check t.words e ≡ o → is_in_order (last_of t.words) (kept_of t (e ∷ es)) ≡ true
+    → (o : Result (Unit {0}) Refusal) → record_check t.words e ≡ o → is_in_order (last_of t.words) (kept_of t (e ∷ es)) ≡ true
 unfolding is_in_order
-order_step t e es h (outcome.Refused x) r =
+order_step t e es h (Err x) r =
     ap (is_in_order (last_of t.words)) (not_kept t e x r es)
     ∙ ap (λ (ws : List ℕ). is_in_order (last_of ws) (kept_of (taped_with t e) es)) (sym (words_stay t e x r))
     ∙ h
-order_step t e es h outcome.Done r =
+order_step t e es h (Ok tt) r =
     ap (is_in_order (last_of t.words)) (kept t e r es)
     ∙ ap (λ (b : Bool). b && is_in_order e.time (kept_of (taped_with t e) es)) (le-leb _ _ (done t.words e r).later)
     ∙ ap (λ (n : ℕ). is_in_order n (kept_of (taped_with t e) es)) (sym (last_then t e r))

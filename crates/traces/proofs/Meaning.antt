@@ -1,6 +1,7 @@
 -- What a recording is, over the calls from a fresh one on. The words and the open block always mean the records that the open block holds; and the
 -- trace that came out is all the records that were not refused, in their order, in blocks each filled while the next record fits, numbered by one,
 -- each closed.
+use Rattle.std.specs.Prelude.{Result, Ok, Err}
 use Prim.Native.Nat.{ℕ, suc, ◌+◌, ◌≤◌}
 use mathlib.Core.Path.{◌≡◌, ◌∙◌, refl, sym, ap, subst}
 use mathlib.Core.List.{List, [], ◌∷◌, ◌++◌, flatten, append_assoc, append-nil}
@@ -11,8 +12,6 @@ use lib.ListN.{length}
 use borrow.Author.Tests.{le-leb, leb-true}
 use Rattle.refusal.specs.Choice.{pick}
 use Rattle.refusal.specs.declared.Refusal.{Refusal}
-use Rattle.refusal.specs.declared.Outcome.{Outcome}
-use Rattle.refusal.specs.declared.Outcome.TheVariants as outcome
 use Rattle.block.specs.Layout.{records_at, block_octets, Entry}
 use Rattle.block.specs.Making.{size_of, sizes_of, added_to, sealed, block_of}
 use Rattle.block.proofs.Made.{added_opened, added_more, sizes_snoc}
@@ -32,19 +31,19 @@ fits_room t n held e h =
 -- ---- ONE CALL
 module _ (t : Tape) (e : Entry) where
   -- refused: all stays
-  module _ (x : Refusal) (r : record_check t.words e ≡ outcome.Refused x) where
+  module _ (x : Refusal) (r : record_check t.words e ≡ Err x) where
     pub words_stay : (taped_with t e).words ≡ t.words
-    words_stay = ap (λ (o : Outcome). lent_by o t.words (words_with t.words e)) r
+    words_stay = ap (λ (o : Result (Unit {0}) Refusal). lent_by o t.words (words_with t.words e)) r
 
     opened_stays : (taped_with t e).opened ≡ t.opened
-    opened_stays = ap (λ (o : Outcome). lent_by o t.opened (open_with t.opened t.words e)) r
+    opened_stays = ap (λ (o : Result (Unit {0}) Refusal). lent_by o t.opened (open_with t.opened t.words e)) r
 
     given_stays : (taped_with t e).given ≡ t.given
-    given_stays = ap (λ (o : Outcome). t.given ++ given_by o t.opened t.words e) r ∙ append-nil t.given
+    given_stays = ap (λ (o : Result (Unit {0}) Refusal). t.given ++ given_by o t.opened t.words e) r ∙ append-nil t.given
 
     pub not_kept : (es : List Entry) → kept_of t (e ∷ es) ≡ kept_of (taped_with t e) es
     unfolding kept_of
-    not_kept es = ap (λ (o : Outcome). kept_by o e (kept_of (taped_with t e) es)) r
+    not_kept es = ap (λ (o : Result (Unit {0}) Refusal). kept_by o e (kept_of (taped_with t e) es)) r
 
     holds_on : (n : ℕ) (held : List Entry) → Holding t n held → Holding (taped_with t e) n held
     holds_on n held h =
@@ -56,19 +55,19 @@ module _ (t : Tape) (e : Entry) where
         }
 
   -- not refused: it is kept, behind the others or in the next block
-  module _ (r : record_check t.words e ≡ outcome.Done) where
+  module _ (r : record_check t.words e ≡ Ok tt) where
     pub words_then : (taped_with t e).words ≡ words_with t.words e
-    words_then = ap (λ (o : Outcome). lent_by o t.words (words_with t.words e)) r
+    words_then = ap (λ (o : Result (Unit {0}) Refusal). lent_by o t.words (words_with t.words e)) r
 
     opened_then : (taped_with t e).opened ≡ open_with t.opened t.words e
-    opened_then = ap (λ (o : Outcome). lent_by o t.opened (open_with t.opened t.words e)) r
+    opened_then = ap (λ (o : Result (Unit {0}) Refusal). lent_by o t.opened (open_with t.opened t.words e)) r
 
     given_then : (taped_with t e).given ≡ t.given ++ pick (closes t.words e) (sealed t.opened) []
-    given_then = ap (λ (o : Outcome). t.given ++ given_by o t.opened t.words e) r
+    given_then = ap (λ (o : Result (Unit {0}) Refusal). t.given ++ given_by o t.opened t.words e) r
 
     pub kept : (es : List Entry) → kept_of t (e ∷ es) ≡ e ∷ kept_of (taped_with t e) es
     unfolding kept_of
-    kept es = ap (λ (o : Outcome). kept_by o e (kept_of (taped_with t e) es)) r
+    kept es = ap (λ (o : Result (Unit {0}) Refusal). kept_by o e (kept_of (taped_with t e) es)) r
 
     short : length e.message ≤ 485
     short = (done t.words e r).short
@@ -137,7 +136,7 @@ module _ (t : Tape) (e : Entry) (es : List Entry) where
   Then m held = Comes (taped_with t e) es m (cut_from held (kept_of (taped_with t e) es))
 
   -- a refused call changes nothing of it
-  refused_comes : (x : Refusal) → record_check t.words e ≡ outcome.Refused x → (n : ℕ) (f : List Entry → List (List Entry))
+  refused_comes : (x : Refusal) → record_check t.words e ≡ Err x → (n : ℕ) (f : List Entry → List (List Entry))
       → Comes (taped_with t e) es n (f (kept_of (taped_with t e) es)) → Comes t (e ∷ es) n (f (kept_of t (e ∷ es)))
   unfolding taped_all
   refused_comes x r n f c =
@@ -146,7 +145,7 @@ module _ (t : Tape) (e : Entry) (es : List Entry) where
         numbers = λ l. rw (not_kept t e x r es) (c.numbers (rw (words_stay t e x r) l));
       }
 
-  module _ (r : record_check t.words e ≡ outcome.Done) where
+  module _ (r : record_check t.words e ≡ Ok tt) where
     -- a record that has room stays in its block
     more_comes : (n : ℕ) (held : List Entry) → Holding t n held → has_room held e ≡ true → Then n (held ++ (e ∷ []))
         → Comes t (e ∷ es) n (cut_from held (kept_of t (e ∷ es)))
@@ -188,20 +187,20 @@ module _ (t : Tape) (e : Entry) (es : List Entry) where
 -- by what becomes of the first call
 module _ (t : Tape) (e : Entry) (es : List Entry) (n : ℕ) where
   held_step : (held : List Entry) → Holding t n held → ((m : ℕ) (hs : List Entry) → Holding (taped_with t e) m hs → Then t e es m hs)
-      → (o : Outcome) → record_check t.words e ≡ o → (b : Bool) → has_room held e ≡ b → Comes t (e ∷ es) n (cut_from held (kept_of t (e ∷ es)))
-  held_step held h ih (outcome.Refused x) r b f = refused_comes t e es x r n (cut_from held) (ih n held (holds_on t e x r n held h))
-  held_step held h ih outcome.Done r true f = more_comes t e es r n held h f (ih n (held ++ (e ∷ [])) (holds_more t e r n held h f))
-  held_step held h ih outcome.Done r false f =
+      → (o : Result (Unit {0}) Refusal) → record_check t.words e ≡ o → (b : Bool) → has_room held e ≡ b → Comes t (e ∷ es) n (cut_from held (kept_of t (e ∷ es)))
+  held_step held h ih (Err x) r b f = refused_comes t e es x r n (cut_from held) (ih n held (holds_on t e x r n held h))
+  held_step held h ih (Ok tt) r true f = more_comes t e es r n held h f (ih n (held ++ (e ∷ [])) (holds_more t e r n held h f))
+  held_step held h ih (Ok tt) r false f =
       next_comes t e es r n held h f
       (ih (suc n) (e ∷ []) (subst (λ (m : ℕ). Holding (taped_with t e) m (e ∷ [])) h.next_is (holds_one t e r (fits_room t n held e h ∙ f))))
 
   fresh_step : end_of t.words ≡ 0 → next_of t.words ≡ n
       → (end_of (taped_with t e).words ≡ 0 → next_of (taped_with t e).words ≡ n → Comes (taped_with t e) es n (cut (kept_of (taped_with t e) es)))
       → ((m : ℕ) (hs : List Entry) → Holding (taped_with t e) m hs → Then t e es m hs)
-      → (o : Outcome) → record_check t.words e ≡ o → Comes t (e ∷ es) n (cut (kept_of t (e ∷ es)))
-  fresh_step z m fresh held (outcome.Refused x) r =
+      → (o : Result (Unit {0}) Refusal) → record_check t.words e ≡ o → Comes t (e ∷ es) n (cut (kept_of t (e ∷ es)))
+  fresh_step z m fresh held (Err x) r =
       refused_comes t e es x r n cut (fresh (ap end_of (words_stay t e x r) ∙ z) (ap next_of (words_stay t e x r) ∙ m))
-  fresh_step z m fresh held outcome.Done r =
+  fresh_step z m fresh held (Ok tt) r =
       first_comes t e es r n z m
       (held n (e ∷ []) (subst (λ (m : ℕ). Holding (taped_with t e) m (e ∷ [])) m (holds_one t e r (none_fits t e z))))
 
@@ -233,12 +232,12 @@ module _ (opened : List ℕ) (n : ℕ) (es : List Entry) where
   numbers_fit l = (fresh_comes es (fresh_tape opened n) n refl refl).numbers l
 
 -- ---- WHAT THE WORDS MEAN
-means_step : (t : Tape) (e : Entry) → Means t → (o : Outcome) → record_check t.words e ≡ o → (b : Bool) → fits t.words e ≡ b → Means (taped_with t e)
-means_step t e (closed z) (outcome.Refused x) r b f = closed (ap end_of (words_stay t e x r) ∙ z)
-means_step t e (holding {n} {held} h) (outcome.Refused x) r b f = holding (holds_on t e x r n held h)
-means_step t e (closed z) outcome.Done r b f = holding (holds_one t e r (none_fits t e z))
-means_step t e (holding {n} {held} h) outcome.Done r true f = holding (holds_more t e r n held h (sym (fits_room t n held e h) ∙ f))
-means_step t e (holding h) outcome.Done r false f = holding (holds_one t e r f)
+means_step : (t : Tape) (e : Entry) → Means t → (o : Result (Unit {0}) Refusal) → record_check t.words e ≡ o → (b : Bool) → fits t.words e ≡ b → Means (taped_with t e)
+means_step t e (closed z) (Err x) r b f = closed (ap end_of (words_stay t e x r) ∙ z)
+means_step t e (holding {n} {held} h) (Err x) r b f = holding (holds_on t e x r n held h)
+means_step t e (closed z) (Ok tt) r b f = holding (holds_one t e r (none_fits t e z))
+means_step t e (holding {n} {held} h) (Ok tt) r true f = holding (holds_more t e r n held h (sym (fits_room t n held e h) ∙ f))
+means_step t e (holding h) (Ok tt) r false f = holding (holds_one t e r f)
 
 means_all : (es : List Entry) (t : Tape) → Means t → Means (taped_all t es)
 unfolding taped_all

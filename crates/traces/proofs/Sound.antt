@@ -1,5 +1,6 @@
 -- What was recorded can be read again: every block of the trace passes the four tests behind those before it, and the records read are those that were
 -- kept.
+use Rattle.std.specs.Prelude.{Ok}
 use Prim.Native.Nat.{ℕ, suc, ◌+◌, ◌≤◌, ◌<◌}
 use mathlib.Core.Path.{◌≡◌, ◌∙◌, refl, sym, ap, subst}
 use mathlib.Core.List.{List, [], ◌∷◌, ◌++◌, map, flatten}
@@ -14,7 +15,7 @@ use Rattle.block.specs.Layout.{Entry, entries_of}
 use Rattle.judging.specs.Tests.{is_whole, is_in_order, last_of, verdict_of, reader_after}
 use Rattle.block.specs.Making.{sizes_of, open_block, block_of, EntryFits, OnPort, All}
 use Rattle.judging.specs.declared.Reader.{Reader}
-use Rattle.judging.specs.declared.Verdict.TheVariants as verdict
+use Rattle.judging.specs.declared.Flaw.TheVariants as verdict
 use Rattle.block.proofs.Check.{sealed_checked}
 use Rattle.block.proofs.Made.{block_length, block_number, block_entries}
 use Rattle.judging.proofs.Laid.{block_laid}
@@ -33,7 +34,7 @@ module _ (r : Reader) (n : ℕ) (es : List Entry) (held : IsHeld es) (fits : All
   reader_is = λ i. record { next = suc (block_number n es size number i); last = last_of r.last (block_entries n es size fits i) }
 
   -- it is sound, behind a lower number and times that it does not fall below
-  block_sound : r.next ≤ n → is_in_order r.last es ≡ true → verdict_of r (block_of n es) ≡ verdict.Sound (reader_after r (block_of n es))
+  block_sound : r.next ≤ n → is_in_order r.last es ≡ true → verdict_of r (block_of n es) ≡ Ok (reader_after r (block_of n es))
   unfolding verdict_of
   block_sound l o =
       goes_on _ _ _ (ap (λ (b : Bool). is_whole (block_of n es) && not b) (sealed_checked (open_block n es)) ∙ and-false (is_whole (block_of n es)))

@@ -1,5 +1,6 @@
 -- WHAT WAS RECORDED BESIDE A LIVE CLOCK, REPLAYED, GIVES THE LIVE STATE: as long as recording refused none of the messages that the clock accepted, the
 -- trace is accepted, and the replay leaves the words of the live clock (02, (iv)).
+use Rattle.std.specs.Prelude.{Result, Ok, Err}
 use Prim.Native.Nat.{ℕ, ◌+◌, ◌≤◌, ◌<◌}
 use mathlib.Core.Path.{◌≡◌, ◌∙◌, refl, sym, ap, subst}
 use mathlib.Core.List.{List, [], ◌∷◌, ◌++◌, map, flatten}
@@ -8,8 +9,6 @@ use native.Mathlib.Omega.{arith}
 use lib.ListN.{length, length-append}
 use lib.Seq.{take_at, drop_at}
 use Rattle.refusal.specs.Refusal.{code_of}
-use Rattle.refusal.specs.declared.Outcome.{Outcome}
-use Rattle.refusal.specs.declared.Outcome.TheVariants as outcome
 use Rattle.refusal.proofs.Numbers.{answered}
 use Rattle.senders.specs.Port.{outcome_of}
 use Rattle.block.specs.Layout.{block_octets, Entry, entries_of}
@@ -30,6 +29,7 @@ use Rattle.traces.specs.Taped.{Tape, taped_with, taped_all, trace_of, fresh_tape
 use Rattle.traces.specs.Whole.{messages_of, trace_beside, KeepsTaken, over, asks, takes}
 use Rattle.traces.proofs.Meaning.{not_kept, kept, trace_is}
 use Rattle.traces.proofs.Sound.{trace_sound, records_back}
+use Rattle.refusal.specs.declared.Refusal.{Refusal}
 
 -- ---- THE RECORDS HOLD THE HISTORY
 module _ (by : Settings) (ws : List ℕ) (t : Tape) (p tm : ℕ) (s : List ℕ) (cs : List Call) where
@@ -37,13 +37,13 @@ module _ (by : Settings) (ws : List ℕ) (t : Tape) (p tm : ℕ) (s : List ℕ) 
   abbrev e : Entry
   e = entry_of tm p s
 
-  message_holds : (take_number by ws p tm s ≡ 0 → record_check t.words e ≡ outcome.Done)
+  message_holds : (take_number by ws p tm s ≡ 0 → record_check t.words e ≡ Ok tt)
       → Holds by (after ws (taking by p tm s)) cs (kept_of (taped_with t e) (messages_of cs))
-      → (r o : Outcome) → record_check t.words e ≡ r → outcome_of (plan_at by ws p tm s) ≡ o
+      → (r o : Result (Unit {0}) Refusal) → record_check t.words e ≡ r → outcome_of (plan_at by ws p tm s) ≡ o
       → Holds by ws (taking by p tm s ∷ cs) (kept_of t (e ∷ messages_of cs))
-  message_holds g h outcome.Done o d k = rw (kept t e d (messages_of cs)) (recorded h)
-  message_holds g h (outcome.Refused x) outcome.Done d k = absurd (let n = g (ap code_of k) in let z : ◌≡◌ {A = ℕ} 0 1 = cc in omega arith)
-  message_holds g h (outcome.Refused x) (outcome.Refused y) d k =
+  message_holds g h (Ok tt) o d k = rw (kept t e d (messages_of cs)) (recorded h)
+  message_holds g h (Err x) (Ok tt) d k = absurd (let n = g (ap code_of k) in let z : ◌≡◌ {A = ℕ} 0 1 = cc in omega arith)
+  message_holds g h (Err x) (Err y) d k =
       rw (not_kept t e x d (messages_of cs))
       (left_out (subst (λ (n : ℕ). 0 < n) (sym (ap code_of k)) (answered y))
       (subst (λ (vs : List ℕ). Holds by vs cs (kept_of (taped_with t e) (messages_of cs))) (refusal_leaves ws p tm (plan_at by ws p tm s) y k) h))

@@ -1,4 +1,5 @@
 -- A recording over some calls, worked out: what it keeps, and where it cuts; and one beside a clock.
+use Rattle.std.specs.Prelude.{Ok}
 use Prim.Native.Nat.{ℕ, ◌≤◌}
 use mathlib.Core.Path.{◌≡◌, refl}
 use mathlib.Core.List.{List, [], ◌∷◌}
@@ -6,7 +7,6 @@ use native.Mathlib.Omega.{arith}
 use lib.ListN.{length, replicate}
 use borrow.Author.Tests.{le-ltb}
 use Rattle.refusal.specs.Choice.{refuse}
-use Rattle.refusal.specs.declared.Outcome.TheVariants.{Done}
 use Rattle.block.specs.Layout.{Entry}
 use Rattle.block.specs.Making.{sizes_of}
 use Rattle.recording.specs.Recording.{entry_of, check_by, record_check}
@@ -51,5 +51,5 @@ module _ (by : Settings) (s : List ℕ) where
   unfolding messages_of check_by refuse kept_of admitted_of plan_at
   beside ws h =
       let short = le-ltb 485 (length s) h in
-      let done : record_check (fresh_tape [] 0).words (entry_of 50 2 s) ≡ Done = rw short in
+      let done : record_check (fresh_tape [] 0).words (entry_of 50 2 s) ≡ Ok tt = rw short in
       record { given = refl; keeps = asks (takes (λ z. done) (takes (λ z. refused z) over)); first_kept = rw short }

@@ -1,14 +1,13 @@
 -- What a recording comes to, over the calls from a fresh one on: the trace that it gave, and which records are in it.
-use Rattle.std.specs.Prelude.{ℕ, suc, ◌+◌, ◌≤◌, ◌<◌, ◌≡◌, List, [], ◌∷◌, ◌++◌, Bool, false, leb, length}
+use Rattle.std.specs.Prelude.{ℕ, suc, ◌+◌, ◌≤◌, ◌<◌, ◌≡◌, List, [], ◌∷◌, ◌++◌, Bool, false, leb, length, Result, Ok, Err}
 use Rattle.refusal.specs.Choice.{pick}
-use Rattle.refusal.specs.declared.Outcome.{Outcome}
-use Rattle.refusal.specs.declared.Outcome.TheVariants as outcome
 use Rattle.block.specs.Layout.{block_octets, records_at, longest, Entry}
 use Rattle.judging.specs.Tests.{verdict_of, reader_after}
 use Rattle.judging.specs.declared.Reader.{Reader}
-use Rattle.judging.specs.declared.Verdict.TheVariants as verdict
+use Rattle.judging.specs.declared.Flaw.TheVariants as verdict
 use Rattle.block.specs.Making.{size_of, sizes_of, sealed, open_block, block_of}
 use Rattle.recording.specs.Recording.{next_of, end_of, is_open, closes, record_check, open_after, words_after}
+use Rattle.refusal.specs.declared.Refusal.{Refusal}
 
 -- a recording: the open block and its words; the octets that it gave so far
 pub record Tape : Type 0 where
@@ -17,9 +16,9 @@ pub record Tape : Type 0 where
   pub given : List ℕ
 
 -- the octets that a call gives: the block that it closes
-abbrev pub given_by : Outcome → List ℕ → List ℕ → Entry → List ℕ
-given_by (outcome.Refused x) opened ws e = []
-given_by outcome.Done opened ws e = pick (closes ws e) (sealed opened) []
+abbrev pub given_by : Result (Unit {0}) Refusal → List ℕ → List ℕ → Entry → List ℕ
+given_by (Err x) opened ws e = []
+given_by (Ok tt) opened ws e = pick (closes ws e) (sealed opened) []
 
 -- one call, and one after another
 abbrev pub taped_with : Tape → Entry → Tape
@@ -43,9 +42,9 @@ abbrev pub fresh_tape : List ℕ → ℕ → Tape
 fresh_tape opened n = record { opened = opened; words = n ∷ 0 ∷ 0 ∷ []; given = [] }
 
 -- those of the entries that recording does not refuse, in their order
-abbrev pub kept_by : Outcome → Entry → List Entry → List Entry
-kept_by (outcome.Refused x) e es = es
-kept_by outcome.Done e es = e ∷ es
+abbrev pub kept_by : Result (Unit {0}) Refusal → Entry → List Entry → List Entry
+kept_by (Err x) e es = es
+kept_by (Ok tt) e es = e ∷ es
 
 unfoldable pub kept_of : Tape → List Entry → List Entry
 kept_of t [] = []
@@ -101,4 +100,4 @@ pub data Means (t : Tape) : Type 0 where
 pub data Sounds : Reader → List (List ℕ) → Type 0 where
   end : {r : Reader} → Sounds r []
   next : {r : Reader} {b : List ℕ} {bs : List (List ℕ)}
-      → length b ≡ block_octets → verdict_of r b ≡ verdict.Sound (reader_after r b) → Sounds (reader_after r b) bs → Sounds r (b ∷ bs)
+      → length b ≡ block_octets → verdict_of r b ≡ Ok (reader_after r b) → Sounds (reader_after r b) bs → Sounds r (b ∷ bs)

@@ -1,7 +1,6 @@
 -- A recording beside a live clock: every message that the clock is given is recorded too (02, (iv): "the recorded messages are ones those calls were
 -- given, in that order and with that port and time, every accepted Announce among them").
-use Rattle.std.specs.Prelude.{ℕ, ◌≡◌, List, [], ◌∷◌}
-use Rattle.refusal.specs.declared.Outcome.TheVariants.{Done}
+use Rattle.std.specs.Prelude.{ℕ, ◌≡◌, List, [], ◌∷◌, Ok}
 use Rattle.block.specs.Layout.{Entry}
 use Rattle.recording.specs.Recording.{entry_of, record_check}
 use Rattle.ports.specs.declared.intake.Settings.{Settings}
@@ -26,6 +25,6 @@ pub data KeepsTaken (by : Settings) : List ℕ → Tape → List Call → Type 0
   over : {ws : List ℕ} {t : Tape} → KeepsTaken by ws t []
   asks : {ws : List ℕ} {t : Tape} {p : ℕ} {cs : List Call} → KeepsTaken by ws t cs → KeepsTaken by ws t (asking p ∷ cs)
   takes : {ws : List ℕ} {t : Tape} {p tm : ℕ} {s : List ℕ} {cs : List Call}
-      → (take_number by ws p tm s ≡ 0 → record_check t.words (entry_of tm p s) ≡ Done)
+      → (take_number by ws p tm s ≡ 0 → record_check t.words (entry_of tm p s) ≡ Ok tt)
       → KeepsTaken by (after ws (taking by p tm s)) (taped_with t (entry_of tm p s)) cs
       → KeepsTaken by ws t (taking by p tm s ∷ cs)

@@ -9,10 +9,10 @@ ghost use Rattle.octets.specs.Be.{octets_of};
 ghost use Rattle.writer.specs.Writing.{write_of, buffer_of};
 ghost use Rattle.wr_tlvs.specs.Built.{wr_octets, zeros, suffix_tlv, link_tlv, link_octets, signaling};
 
+use refusal::Refusal;
 use message::fields::{Body, Header, Message, PortIdentity};
 use tlv::form::{ANN_SUFIX, CALIBRATE, CALIBRATED, LOCK, LOCKED, MODE_ON, SLAVE_PRESENT};
 use tlv::wr::LinkMessage;
-use writer::writing::Written;
 
 mod digits;
 
@@ -131,7 +131,7 @@ pub fn write_link(
     target: PortIdentity,
     x: LinkMessage,
     magic: u16,
-) -> Written
+) -> Result<usize, Refusal>
     ensures answer { result ≡ write_of magic (signaling header target) (link_octets magic x) out.old }
     ensures buffer { out.new ≡ buffer_of magic (signaling header target) (link_octets magic x) out.old }
 {

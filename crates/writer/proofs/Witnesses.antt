@@ -1,4 +1,5 @@
 -- The limits of writing, by 01's numbers. Where a limit is not passed, the answer is that of a message well within it, whatever the tail.
+use Rattle.std.specs.Prelude.{Err}
 use Prim.Native.Nat.{ℕ}
 use mathlib.Core.Path.{◌≡◌, refl}
 use mathlib.Core.List.{List}
@@ -6,7 +7,6 @@ use lib.IntN.{pos}
 use lib.ListN.{length}
 use Rattle.refusal.specs.Choice.{refuse}
 use Rattle.refusal.specs.declared.Refusal.TheVariants.{Field}
-use Rattle.refusal.specs.declared.Outcome.TheVariants.{Refused}
 use Rattle.message.specs.Fields.{fixed_size}
 use Rattle.message.specs.declared.fields.Body.{Body}
 use Rattle.message.specs.declared.fields.Body.TheVariants as body
@@ -56,10 +56,10 @@ module _ (tail : List ℕ) (room : ℕ) where
   -- "transportSpecific (high half)": 15 fits its field and 16 does not; "48-bit seconds"; nanoseconds of 10^9 would be refused when read
   pub record Limits : Type 0 where
     pub transport_15 : write_check 0xABCD (message 15 sync) tail room ≡ write_check 0xABCD (message 0 sync) tail room
-    pub transport_16 : write_check 0xABCD (message 16 sync) tail room ≡ Refused Field
+    pub transport_16 : write_check 0xABCD (message 16 sync) tail room ≡ Err Field
     pub stamp_last : write_check 0xABCD (message 0 (body.Sync (stamp 281474976710655 999999999))) tail room ≡ write_check 0xABCD (message 0 sync) tail room
-    pub seconds_49_bits : write_check 0xABCD (message 0 (body.Sync (stamp 281474976710656 0))) tail room ≡ Refused Field
-    pub nanoseconds_10_9 : write_check 0xABCD (message 0 (body.Sync (stamp 0 1000000000))) tail room ≡ Refused Field
+    pub seconds_49_bits : write_check 0xABCD (message 0 (body.Sync (stamp 281474976710656 0))) tail room ≡ Err Field
+    pub nanoseconds_10_9 : write_check 0xABCD (message 0 (body.Sync (stamp 0 1000000000))) tail room ≡ Err Field
 
   pub limits : Limits
   unfolding write_check refuse stamp_fits
@@ -70,6 +70,6 @@ module _ (tail : List ℕ) (room : ℕ) where
   unfolding write_check refuse stamp_fits fixed_size
   longest e = rw e
 
-  pub too_long : length tail ≡ 65474 → write_check 0xABCD (message 0 announce) tail room ≡ Refused Field
+  pub too_long : length tail ≡ 65474 → write_check 0xABCD (message 0 announce) tail room ≡ Err Field
   unfolding write_check refuse stamp_fits fixed_size
   too_long e = rw e

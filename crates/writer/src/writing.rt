@@ -7,14 +7,7 @@ ghost use Rattle.std.specs.Prelude.{◌≡◌};
 ghost use Rattle.writer.specs.Writing.{stamp_fits, body_fits, type_check, write_check, write_of, buffer_of};
 
 use message::fields::{Body, Message, Timestamp};
-use refusal::{Outcome, Refusal};
-
-// How many octets the message has that was written, or why it was refused.
-#[derive(Clone, Copy)]
-pub enum Written {
-    Octets(usize),
-    Refused(Refusal),
-}
+use refusal::Refusal;
 
 // Whether a timestamp fits its field and would be read.
 fn stamp_fits(t: Timestamp) -> bool
@@ -38,51 +31,51 @@ fn body_fits(b: Body) -> bool
 }
 
 // For a caller that has a type number and no message yet: 18 if the type is not listed.
-pub fn check_type(kind: u8) -> Outcome
+pub fn check_type(kind: u8) -> Result<(), Refusal>
     ensures { result ≡ type_check kind }
 {
     if message::fields::fixed_size(kind) == 0 {
-        return Outcome::Refused(Refusal::Field);
+        return Err(Refusal::Field);
     }
-    Outcome::Done
+    Ok(())
 }
 
 // The checks: 18, then 16 against the room there is.
-fn check(m: Message, tail: &[u8], magic: u16, room: usize) -> Outcome
+fn check(m: Message, tail: &[u8], magic: u16, room: usize) -> Result<(), Refusal>
     ensures { result ≡ write_check magic m tail.now room }
 {
     let b = m.body;
     let h = m.header;
     if h.transport >= 16 {
-        return Outcome::Refused(Refusal::Field);
+        return Err(Refusal::Field);
     }
     if !body_fits(b) {
-        return Outcome::Refused(Refusal::Field);
+        return Err(Refusal::Field);
     }
     let size = message::fields::fixed_size(layout::kind_of(b));
     if tail.len() > 65535 - size {
-        return Outcome::Refused(Refusal::Field);
+        return Err(Refusal::Field);
     }
     match message::reading::tail_check(tail, size, magic) {
-        Outcome::Refused(_) => Outcome::Refused(Refusal::Field),
-        Outcome::Done => {
+        Err(_) => Err(Refusal::Field),
+        Ok(()) => {
             if room < size + tail.len() {
-                Outcome::Refused(Refusal::Room)
+                Err(Refusal::Room)
             } else {
-                Outcome::Done
+                Ok(())
             }
         }
     }
 }
 
 // A message and its tail go into the front of the buffer.
-pub fn write(out: &mut [u8], m: Message, tail: &[u8], magic: u16) -> Written
+pub fn write(out: &mut [u8], m: Message, tail: &[u8], magic: u16) -> Result<usize, Refusal>
     ensures answer { result ≡ write_of magic m tail.now out.old }
     ensures buffer { out.new ≡ buffer_of magic m tail.now out.old }
 {
     match check(m, tail, magic, out.len()) {
-        Outcome::Refused(x) => Written::Refused(x),
-        Outcome::Done => {
+        Err(x) => Err(x),
+        Ok(()) => {
             let b = m.body;
             let h = m.header;
             let size = message::fields::fixed_size(layout::kind_of(b));
@@ -90,7 +83,7 @@ pub fn write(out: &mut [u8], m: Message, tail: &[u8], magic: u16) -> Written
             layout::put_header(out, h, b, n as u16);
             layout::put_body(out, b);
             stores::copy_in(out, size, tail);
-            Written::Octets(n)
+            Ok(n)
         }
     }
 }

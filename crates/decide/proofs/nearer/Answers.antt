@@ -14,5 +14,5 @@ returns c =
       c.compare.ensures,
       c.set_of-2.ensures,
       c.set_of.ensures,
-      c.in-Present.is,
+      c.in-Some.is,
     )

@@ -1,8 +1,8 @@
 -- `measure` meets its contract: where M is refused so is the exchange, and else the delay and the offset are those of the contract.
+use Rattle.std.specs.Prelude.{Ok}
 use mathlib.Core.Path.{ap, ap₂, ◌∙◌}
 use Prim.Native.Nat.{◌^◌}
 use lib.IntN.{ℤ, ◌-ℤ◌}
-use Rattle.delay.specs.declared.Measurement.TheVariants.{Measured}
 use Rattle.delay.specs.Delay.{t1, t2, delay, offset, in_seconds}
 use Rattle.delay.proofs.Ranges.{range_yes}
 use Rattle.delay.proofs.Laws.{raised_alike, lowered_is}
@@ -17,4 +17,4 @@ returns c =
     let low = lowered_is (delay x) (2 ^ 49) d.result d.ensures.is in
     let o = c.offset_of-offset.ensures ∙ ap in_seconds (ap₂ ◌-ℤ◌ alike low) in
     let e = c.lowered.ensures ∙ low in
-    simp (range_yes c.in-At.ensures.0) (ap₂ Measured (ap (λ (z : ℤ). record { 0 = z }) e) o)
+    simp (range_yes c.in-Some.ensures.0) (ap₂ (λ x y. Ok (x, y)) (ap (λ (z : ℤ). record { 0 = z }) e) o)

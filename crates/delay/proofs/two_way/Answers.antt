@@ -1,7 +1,7 @@
 -- `two_way` meets its contract: each way out says which limit is broken, and the last that none is.
+use Rattle.std.specs.Prelude.{Some}
 use mathlib.Core.Path.{sym, ◌∙◌, subst}
 use lib.IntN.{◌-ℤ◌}
-use Rattle.delay.specs.declared.Span.TheVariants.{At}
 use Rattle.delay.specs.Delay.{t1, t2, t3, t4}
 use Rattle.delay.specs.Range.{InputsIn}
 use Rattle.delay.specs.Inside.{SpanIs}
@@ -38,12 +38,12 @@ returns-in_default-back c =
 pub returns : goal.returns
 returns c =
     let x = c.args.x in
-    let there : SpanIs (t4 x -ℤ t1 x) (At c.in-At.u) = c.in-At.ensures in
-    let back : SpanIs (t3 x -ℤ t2 x) (At c.in-At-back.v) = c.in-At-back.ensures in (
+    let there : SpanIs (t4 x -ℤ t1 x) (Some c.in-Some.u) = c.in-Some.ensures in
+    let back : SpanIs (t3 x -ℤ t2 x) (Some c.in-Some-back.v) = c.in-Some-back.ensures in (
       record {
         inputs = inputs_told x (sym c.inputs_good-good.ensures ∙ c.if-not-good.false);
         outer = there.0;
         inner = back.0;
       },
-      difference_is (t4 x -ℤ t1 x) (t3 x -ℤ t2 x) c.in-At.u c.in-At-back.v there back,
+      difference_is (t4 x -ℤ t1 x) (t3 x -ℤ t2 x) c.in-Some.u c.in-Some-back.v there back,
     )

@@ -1,10 +1,10 @@
 -- `export` meets its contract, outcome by outcome: what is refused leaves all as it was, else the capture is put.
+use Rattle.std.specs.Prelude.{Ok}
 use Prim.Native.Nat.{◌+◌, ◌≤◌, ◌<◌}
 use mathlib.Core.Path.{◌≡◌, sym, ap, ◌∙◌}
 use mathlib.Core.Bool.{true}
 use native.Mathlib.Omega.{arith}
 use lib.ListN.{length}
-use Rattle.writer.specs.declared.writing.Written.TheVariants.{Octets}
 use Rattle.playback.specs.Playback.{is_trace}
 use Rattle.playback.proofs.Live.{until_accepted}
 use Rattle.exporting.specs.Exporting.{capture_of, port_of, records_of}
@@ -21,13 +21,13 @@ returns-in_default c =
     record { answer = p.0; octets = p.1 }
 
 pub weigh_all-w-requires : goal.weigh_all-w-requires
-weigh_all-w-requires c = until_accepted c.args.trace.now c.in-Until.field-0 (sym c.judged-x.ensures ∙ c.in-Until.is)
+weigh_all-w-requires c = until_accepted c.args.trace.now c.in-Ok.field-0 (sym c.judged-x.ensures ∙ c.in-Ok.is)
 
 pub returns-in_default-w : goal.returns-in_default-w
 returns-in_default-w c =
     let s = c.args.trace.now in
     let o = c.args.out.now in
-    let is : is_trace s ≡ true = until_accepted c.args.trace.now c.in-Until.field-0 (sym c.judged-x.ensures ∙ c.in-Until.is) in
+    let is : is_trace s ≡ true = until_accepted c.args.trace.now c.in-Ok.field-0 (sym c.judged-x.ensures ∙ c.in-Ok.is) in
     let f = weighs_none (port_of (records_of s)) (records_of s) (sym c.weigh_all-w.ensures ∙ c.in_default-w.is) in
     let p = export_refused s o (not_written s (length o) is f) in
     record { answer = p.0; octets = p.1 }
@@ -36,16 +36,16 @@ pub overflow_add-n : goal.overflow_add-n
 overflow_add-n c =
     let s = c.args.trace.now in
     let o = c.args.out.now in
-    let is : is_trace s ≡ true = until_accepted c.args.trace.now c.in-Until.field-0 (sym c.judged-x.ensures ∙ c.in-Until.is) in
-    let w = weighs (port_of (records_of s)) (records_of s) c.in-Octets.n (sym c.weigh_all-w.ensures ∙ c.in-Octets.is) in
+    let is : is_trace s ≡ true = until_accepted c.args.trace.now c.in-Ok.field-0 (sym c.judged-x.ensures ∙ c.in-Ok.is) in
+    let w = weighs (port_of (records_of s)) (records_of s) c.in-Some.n (sym c.weigh_all-w.ensures ∙ c.in-Some.is) in
     omega (arith, w.1, trace_light s (λ j. omega (arith, c.type_inv.trace j)) is)
 
 pub returns-then-out-n : goal.returns-then-out-n
 returns-then-out-n c =
     let s = c.args.trace.now in
     let o = c.args.out.now in
-    let is : is_trace s ≡ true = until_accepted c.args.trace.now c.in-Until.field-0 (sym c.judged-x.ensures ∙ c.in-Until.is) in
-    let w = weighs (port_of (records_of s)) (records_of s) c.in-Octets.n (sym c.weigh_all-w.ensures ∙ c.in-Octets.is) in
+    let is : is_trace s ≡ true = until_accepted c.args.trace.now c.in-Ok.field-0 (sym c.judged-x.ensures ∙ c.in-Ok.is) in
+    let w = weighs (port_of (records_of s)) (records_of s) c.in-Some.n (sym c.weigh_all-w.ensures ∙ c.in-Some.is) in
     let h : length o < length (capture_of (records_of s)) = omega (arith, w.1, c.if-out-n.true) in
     let p = export_refused s o (no_room s (length o) is w.0 h) in
     record { answer = p.0; octets = p.1 }
@@ -54,17 +54,17 @@ pub put_all-requires : goal.put_all-requires
 put_all-requires c =
     let s = c.args.trace.now in
     let o = c.args.out.now in
-    let is : is_trace s ≡ true = until_accepted c.args.trace.now c.in-Until.field-0 (sym c.judged-x.ensures ∙ c.in-Until.is) in
-    let w = weighs (port_of (records_of s)) (records_of s) c.in-Octets.n (sym c.weigh_all-w.ensures ∙ c.in-Octets.is) in
+    let is : is_trace s ≡ true = until_accepted c.args.trace.now c.in-Ok.field-0 (sym c.judged-x.ensures ∙ c.in-Ok.is) in
+    let w = weighs (port_of (records_of s)) (records_of s) c.in-Some.n (sym c.weigh_all-w.ensures ∙ c.in-Some.is) in
     (is, omega (arith, w.1, c.if-out-n.false))
 
 pub returns : goal.returns
 returns c =
     let s = c.args.trace.now in
     let o = c.args.out.now in
-    let is : is_trace s ≡ true = until_accepted c.args.trace.now c.in-Until.field-0 (sym c.judged-x.ensures ∙ c.in-Until.is) in
-    let w = weighs (port_of (records_of s)) (records_of s) c.in-Octets.n (sym c.weigh_all-w.ensures ∙ c.in-Octets.is) in
+    let is : is_trace s ≡ true = until_accepted c.args.trace.now c.in-Ok.field-0 (sym c.judged-x.ensures ∙ c.in-Ok.is) in
+    let w = weighs (port_of (records_of s)) (records_of s) c.in-Some.n (sym c.weigh_all-w.ensures ∙ c.in-Some.is) in
     let h : length (capture_of (records_of s)) ≤ length o = omega (arith, w.1, c.if-out-n.false) in
-    let n : length (capture_of (records_of s)) ≡ 24 + c.in-Octets.n = omega (arith, w.1) in
-    let p = export_done s o c.put_all.new.out (exported s (length o) is w.0 h ∙ ap Octets n) c.put_all.ensures in
+    let n : length (capture_of (records_of s)) ≡ 24 + c.in-Some.n = omega (arith, w.1) in
+    let p = export_done s o c.put_all.new.out (exported s (length o) is w.0 h ∙ ap Ok n) c.put_all.ensures in
     record { answer = p.0; octets = p.1 }

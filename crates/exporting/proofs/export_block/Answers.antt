@@ -22,30 +22,30 @@ returns-in_default c =
 pub port_behind-port-requires : goal.port_behind-port-requires
 port_behind-port-requires c =
     let a = c.args in
-    (sound_laid (reader_of a.words.now) a.s.now c.in-Sound.after (sym c.judge-v.ensures ∙ c.in-Sound.is)).0
+    (sound_laid (reader_of a.words.now) a.s.now c.in-Ok.after (sym c.judge-v.ensures ∙ c.in-Ok.is)).0
 
 pub weigh-w-requires : goal.weigh-w-requires
 weigh-w-requires c =
     let a = c.args in
-    (sound_laid (reader_of a.words.now) a.s.now c.in-Sound.after (sym c.judge-v.ensures ∙ c.in-Sound.is)).0
+    (sound_laid (reader_of a.words.now) a.s.now c.in-Ok.after (sym c.judge-v.ensures ∙ c.in-Ok.is)).0
 
 pub returns-in_default-w : goal.returns-in_default-w
 returns-in_default-w c =
     let a = c.args in
     let es = entries_of a.s.now in
     let f = weighs_none (port_behind a.words.now es) es (ap (λ (q : ℕ). weight_of q es) (sym c.port_behind-port.ensures) ∙ sym c.weigh-w.ensures ∙ c.in_default-w.is) in
-    let p = block_refused a.words.now a.s.now a.out.now (block_unwritable a.words.now a.s.now (ap is_sound (sym c.judge-v.ensures ∙ c.in-Sound.is)) f) in
+    let p = block_refused a.words.now a.s.now a.out.now (block_unwritable a.words.now a.s.now (ap is_sound (sym c.judge-v.ensures ∙ c.in-Ok.is)) f) in
     record { answer = p.0; words = p.1.0; octets = p.1.1 }
 
 -- its packets have a place in 1351 octets
 pub put_records-requires : goal.put_records-requires
 put_records-requires c =
     let a = c.args in
-    let is : is_laid a.s.now ≡ true = (sound_laid (reader_of a.words.now) a.s.now c.in-Sound.after (sym c.judge-v.ensures ∙ c.in-Sound.is)).0 in
+    let is : is_laid a.s.now ≡ true = (sound_laid (reader_of a.words.now) a.s.now c.in-Ok.after (sym c.judge-v.ensures ∙ c.in-Ok.is)).0 in
     (is, omega (arith, block_packets a.s.now is))
 
 pub returns : goal.returns
 returns c =
     let a = c.args in
-    let p = block_done a.words.now a.s.now a.out.now c.in-Sound.after c.port_behind-port.result c.in-Octets.n c.put_records.new.out (sym c.judge-v.ensures ∙ c.in-Sound.is) c.port_behind-port.ensures (sym c.weigh-w.ensures ∙ c.in-Octets.is) c.put_records.ensures.octets in
+    let p = block_done a.words.now a.s.now a.out.now c.in-Ok.after c.port_behind-port.result c.in-Some.n c.put_records.new.out (sym c.judge-v.ensures ∙ c.in-Ok.is) c.port_behind-port.ensures (sym c.weigh-w.ensures ∙ c.in-Some.is) c.put_records.ensures.octets in
     record { answer = p.0; words = p.1.0; octets = p.1.1 }

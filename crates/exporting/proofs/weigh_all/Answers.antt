@@ -46,8 +46,8 @@ overflow_add-total c =
     let is : is_laid c.part-s.result.now ≡ true = (subst AllLaid on c.loop-at.invariant.1).0 in
     let inside = block_inside c.args.trace.now c.loop-at.at c.loop-at-test.true c.part-s.result.now c.part-s.ensures in
     let k = laid c.part-s.result.now is in
-    let n = weighs c.first_port-port.result (entries_of c.part-s.result.now) c.in-Octets.n (sym c.weigh-w.ensures ∙ c.in-Octets.is) in
-    let light : c.in-Octets.n ≤ 3 * length c.part-s.result.now = omega (arith, k.whole, n.1, block_packets c.part-s.result.now is) in
+    let n = weighs c.first_port-port.result (entries_of c.part-s.result.now) c.in-Some.n (sym c.weigh-w.ensures ∙ c.in-Some.is) in
+    let light : c.in-Some.n ≤ 3 * length c.part-s.result.now = omega (arith, k.whole, n.1, block_packets c.part-s.result.now is) in
     let s = c.args.trace.now in
     let few = trace_short s (λ j. omega (arith, c.type_inv.trace j)) c.requires in
     omega (arith, few, light, inside.1, c.loop-at.invariant.2)
@@ -58,14 +58,14 @@ loop-at-preserved c =
     let is : is_laid c.part-s.result.now ≡ true = (subst AllLaid on c.loop-at.invariant.1).0 in
     let inside = block_inside c.args.trace.now c.loop-at.at c.loop-at-test.true c.part-s.result.now c.part-s.ensures in
     let k = laid c.part-s.result.now is in
-    let n = weighs c.first_port-port.result (entries_of c.part-s.result.now) c.in-Octets.n (sym c.weigh-w.ensures ∙ c.in-Octets.is) in
-    let light : c.in-Octets.n ≤ 3 * length c.part-s.result.now = omega (arith, k.whole, n.1, block_packets c.part-s.result.now is) in
+    let n = weighs c.first_port-port.result (entries_of c.part-s.result.now) c.in-Some.n (sym c.weigh-w.ensures ∙ c.in-Some.is) in
+    let light : c.in-Some.n ≤ 3 * length c.part-s.result.now = omega (arith, k.whole, n.1, block_packets c.part-s.result.now is) in
     let s = c.args.trace.now in
     let b = c.part-s.result.now in (
       inside.1,
       (subst AllLaid on c.loop-at.invariant.1).1,
       omega (arith, light, c.loop-at.invariant.2),
-      block_more c.loop-at.total c.first_port-port.result b (blocks_in (drop (c.loop-at.at + length b) s)) c.in-Octets.n (sym c.weigh-w.ensures ∙ c.in-Octets.is)
+      block_more c.loop-at.total c.first_port-port.result b (blocks_in (drop (c.loop-at.at + length b) s)) c.in-Some.n (sym c.weigh-w.ensures ∙ c.in-Some.is)
           ∙ ap (λ (bs : List (List ℕ)). weight_by c.loop-at.total c.first_port-port.result (entries_of_all bs)) (sym on)
           ∙ c.loop-at.invariant.3,
     )

@@ -1,4 +1,5 @@
 -- `import` meets its contract: check by check, in their order; and the blocks that were counted are those of the trace.
+use Rattle.std.specs.Prelude.{Ok}
 use Prim.Native.Nat.{ℕ, ◌*◌, ◌/◌, ◌≤◌, ◌<◌}
 use mathlib.Core.Path.{◌≡◌, sym, ap, subst, ◌∙◌}
 use mathlib.Core.Bool.{true}
@@ -10,7 +11,6 @@ use Rattle.pcap.specs.Form.{form_of}
 use Rattle.stores.specs.Stores.{over}
 use Rattle.recording.specs.Recording.{next_of}
 use Rattle.pcap.specs.File.{is_capture, is_capture_in, frames_in, frames_of}
-use Rattle.writer.specs.declared.writing.Written.TheVariants.{Octets}
 use Rattle.importing.specs.Importing.{taken_of, records_check, fresh_words, words_after_all, trace_by, records_in, weight_of}
 use Rattle.importing.proofs.Tapes.{trace_length}
 use Rattle.importing.proofs.Walk.{capture_sound}
@@ -49,8 +49,8 @@ returns-then-out-n c =
     let is : is_capture file ≡ true = sym c.is_capture.ensures ∙ c.if-not-is_capture.false in
     let on : is_port a.port ≡ true = sym c.is_port.ensures ∙ c.if-not-is_port.false in
     let told : c.weigh.result ≡ weight_of a.port (frames_of file) = c.weigh.ensures ∙ ap (λ (g : Form). weight_of a.port (frames_in g file)) c.form_of-form.ensures in
-    let b = weight_blocks (records_check fresh_words (records_in a.port file)) (next_of (words_after_all fresh_words (records_in a.port file))) c.in-Blocks.n (sym c.in-Blocks.is ∙ told) in
-    let l : length (trace_by (records_in a.port file)) ≡ 512 * c.in-Blocks.n = trace_length (records_in a.port file) ∙ sym (ap (λ (m : ℕ). 512 * m) b.1) in
+    let b = weight_blocks (records_check fresh_words (records_in a.port file)) (next_of (words_after_all fresh_words (records_in a.port file))) c.in-Ok.n (sym c.in-Ok.is ∙ told) in
+    let l : length (trace_by (records_in a.port file)) ≡ 512 * c.in-Ok.n = trace_length (records_in a.port file) ∙ sym (ap (λ (m : ℕ). 512 * m) b.1) in
     let p = tells_refusal a.out.now a.port file _ (no_room (length a.out.now) a.port file is on b.0 (fewer _ _ _ l c.if-out-n.true)) in
     record { answer = p.0; octets = p.1 }
 
@@ -61,20 +61,20 @@ fill-requires c =
     let is : is_capture file ≡ true = sym c.is_capture.ensures ∙ c.if-not-is_capture.false in
     let on : is_port a.port ≡ true = sym c.is_port.ensures ∙ c.if-not-is_port.false in
     let told : c.weigh.result ≡ weight_of a.port (frames_of file) = c.weigh.ensures ∙ ap (λ (g : Form). weight_of a.port (frames_in g file)) c.form_of-form.ensures in
-    let b = weight_blocks (records_check fresh_words (records_in a.port file)) (next_of (words_after_all fresh_words (records_in a.port file))) c.in-Blocks.n (sym c.in-Blocks.is ∙ told) in
-    let l : length (trace_by (records_in a.port file)) ≡ 512 * c.in-Blocks.n = trace_length (records_in a.port file) ∙ sym (ap (λ (m : ℕ). 512 * m) b.1) in (
+    let b = weight_blocks (records_check fresh_words (records_in a.port file)) (next_of (words_after_all fresh_words (records_in a.port file))) c.in-Ok.n (sym c.in-Ok.is ∙ told) in
+    let l : length (trace_by (records_in a.port file)) ≡ 512 * c.in-Ok.n = trace_length (records_in a.port file) ∙ sym (ap (λ (m : ℕ). 512 * m) b.1) in (
       subst (λ (g : Form). is_capture_in g file ≡ true) (sym c.form_of-form.ensures) is,
       subst (λ (g : Form). length (trace_by (taken_of a.port (frames_in g file))) ≤ length a.out.now) (sym c.form_of-form.ensures) (enough _ _ _ l c.if-out-n.false),
     )
 
-pub returns-in-Refused : goal.returns-in-Refused
-returns-in-Refused c =
+pub returns-in-Err : goal.returns-in-Err
+returns-in-Err c =
     let a = c.args in
     let file = a.file.now in
     let is : is_capture file ≡ true = sym c.is_capture.ensures ∙ c.if-not-is_capture.false in
     let on : is_port a.port ≡ true = sym c.is_port.ensures ∙ c.if-not-is_port.false in
     let told : c.weigh.result ≡ weight_of a.port (frames_of file) = c.weigh.ensures ∙ ap (λ (g : Form). weight_of a.port (frames_in g file)) c.form_of-form.ensures in
-    let p = tells_refusal a.out.now a.port file _ (one_refused (length a.out.now) a.port file is on _ (weight_refused (records_check fresh_words (records_in a.port file)) (next_of (words_after_all fresh_words (records_in a.port file))) c.in-Refused.x (sym c.in-Refused.is ∙ told))) in
+    let p = tells_refusal a.out.now a.port file _ (one_refused (length a.out.now) a.port file is on _ (weight_refused (records_check fresh_words (records_in a.port file)) (next_of (words_after_all fresh_words (records_in a.port file))) c.in-Err.x (sym c.in-Err.is ∙ told))) in
     record { answer = p.0; octets = p.1 }
 
 pub returns-else-out-n-clause-answer : goal.returns-else-out-n-clause-answer
@@ -84,9 +84,9 @@ returns-else-out-n-clause-answer c =
     let is : is_capture file ≡ true = sym c.is_capture.ensures ∙ c.if-not-is_capture.false in
     let on : is_port a.port ≡ true = sym c.is_port.ensures ∙ c.if-not-is_port.false in
     let told : c.weigh.result ≡ weight_of a.port (frames_of file) = c.weigh.ensures ∙ ap (λ (g : Form). weight_of a.port (frames_in g file)) c.form_of-form.ensures in
-    let b = weight_blocks (records_check fresh_words (records_in a.port file)) (next_of (words_after_all fresh_words (records_in a.port file))) c.in-Blocks.n (sym c.in-Blocks.is ∙ told) in
-    let l : length (trace_by (records_in a.port file)) ≡ 512 * c.in-Blocks.n = trace_length (records_in a.port file) ∙ sym (ap (λ (m : ℕ). 512 * m) b.1) in
-    let t = tells_octets a.out.now a.port file _ (imported (length a.out.now) a.port file is on b.0 (enough _ _ _ l c.if-out-n.false)) in ap Octets (omega (arith, l)) ∙ t.0
+    let b = weight_blocks (records_check fresh_words (records_in a.port file)) (next_of (words_after_all fresh_words (records_in a.port file))) c.in-Ok.n (sym c.in-Ok.is ∙ told) in
+    let l : length (trace_by (records_in a.port file)) ≡ 512 * c.in-Ok.n = trace_length (records_in a.port file) ∙ sym (ap (λ (m : ℕ). 512 * m) b.1) in
+    let t = tells_octets a.out.now a.port file _ (imported (length a.out.now) a.port file is on b.0 (enough _ _ _ l c.if-out-n.false)) in ap Ok (omega (arith, l)) ∙ t.0
 
 pub returns-else-out-n-clause-octets : goal.returns-else-out-n-clause-octets
 returns-else-out-n-clause-octets c =
@@ -95,6 +95,6 @@ returns-else-out-n-clause-octets c =
     let is : is_capture file ≡ true = sym c.is_capture.ensures ∙ c.if-not-is_capture.false in
     let on : is_port a.port ≡ true = sym c.is_port.ensures ∙ c.if-not-is_port.false in
     let told : c.weigh.result ≡ weight_of a.port (frames_of file) = c.weigh.ensures ∙ ap (λ (g : Form). weight_of a.port (frames_in g file)) c.form_of-form.ensures in
-    let b = weight_blocks (records_check fresh_words (records_in a.port file)) (next_of (words_after_all fresh_words (records_in a.port file))) c.in-Blocks.n (sym c.in-Blocks.is ∙ told) in
-    let l : length (trace_by (records_in a.port file)) ≡ 512 * c.in-Blocks.n = trace_length (records_in a.port file) ∙ sym (ap (λ (m : ℕ). 512 * m) b.1) in
+    let b = weight_blocks (records_check fresh_words (records_in a.port file)) (next_of (words_after_all fresh_words (records_in a.port file))) c.in-Ok.n (sym c.in-Ok.is ∙ told) in
+    let l : length (trace_by (records_in a.port file)) ≡ 512 * c.in-Ok.n = trace_length (records_in a.port file) ∙ sym (ap (λ (m : ℕ). 512 * m) b.1) in
     let t = tells_octets a.out.now a.port file _ (imported (length a.out.now) a.port file is on b.0 (enough _ _ _ l c.if-out-n.false)) in c.fill.ensures ∙ ap (λ (g : Form). over a.out.now 0 (trace_by (taken_of a.port (frames_in g file)))) c.form_of-form.ensures ∙ t.1

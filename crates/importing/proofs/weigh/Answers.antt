@@ -30,13 +30,13 @@ slice_bounds-foresee-end c =
     frame_here a.form a.file.now c.loop-at.at c.loop-at-test.true c.loop-at.invariant.1 _ (lent_rest a.file.now c.loop-at.at c.loop-at.invariant.0) c.size-size.result c.time-t.result c.size-size.ensures c.time-t.ensures in
     k.whole
 
-pub returns-in-Refused : goal.returns-in-Refused
-returns-in-Refused c =
+pub returns-in-Err : goal.returns-in-Err
+returns-in-Err c =
     let a = c.args in
     let k =
     frame_here a.form a.file.now c.loop-at.at c.loop-at-test.true c.loop-at.invariant.1 _ (lent_rest a.file.now c.loop-at.at c.loop-at.invariant.0) c.size-size.result c.time-t.result c.size-size.ensures c.time-t.ensures in
     let f = frames_from a.form a.file.now (c.loop-at.at + c.size-size.result) in
-    sym (weight_stop c.loop-at.words a.port _ f c.in-Refused.x (sym c.foresee-told.ensures.answer ∙ c.in-Refused.is))
+    sym (weight_stop c.loop-at.words a.port _ f c.in-Err.x (sym c.foresee-told.ensures.answer ∙ c.in-Err.is))
     ∙ sym (ap (weight_from c.loop-at.words a.port) k.frames)
     ∙ c.loop-at.invariant.2
 
@@ -56,7 +56,7 @@ loop-at-preserved c =
       k.inside,
       k.sound,
       ap (λ (ws : List ℕ). weight_from ws a.port f) c.foresee-told.ensures.words
-          ∙ sym (weight_more c.loop-at.words a.port _ f (sym c.foresee-told.ensures.answer ∙ c.in-Done.is))
+          ∙ sym (weight_more c.loop-at.words a.port _ f (sym c.foresee-told.ensures.answer ∙ c.in-Ok.is))
           ∙ sym (ap (weight_from c.loop-at.words a.port) k.frames)
           ∙ c.loop-at.invariant.2,
     )

@@ -8,19 +8,19 @@ use Rattle.origin.proofs.follow_says.Goals as goal
 
 pub is_of-requires : goal.is_of-requires
 is_of-requires c =
-    (c.requires, omega (arith, (taken _ _ _ (sym c.takes.ensures ∙ c.in-Done.is)).fixed))
+    (c.requires, omega (arith, (taken _ _ _ (sym c.takes.ensures ∙ c.in-Ok.is)).fixed))
 
-pub returns-in-Refused : goal.returns-in-Refused
+pub returns-in-Err : goal.returns-in-Err
 unfolding follow_check
-returns-in-Refused c =
-    rw (← c.takes.ensures, c.in-Refused.is)
+returns-in-Err c =
+    rw (← c.takes.ensures, c.in-Err.is)
 
 pub returns-then-is_of : goal.returns-then-is_of
 unfolding follow_check refuse
 returns-then-is_of c =
-    rw (← c.takes.ensures, c.in-Done.is, ← c.is_of.ensures, c.if-is_of.true)
+    rw (← c.takes.ensures, c.in-Ok.is, ← c.is_of.ensures, c.if-is_of.true)
 
 pub returns-else-is_of : goal.returns-else-is_of
 unfolding follow_check refuse
 returns-else-is_of c =
-    rw (← c.takes.ensures, c.in-Done.is, ← c.is_of.ensures, c.if-is_of.false)
+    rw (← c.takes.ensures, c.in-Ok.is, ← c.is_of.ensures, c.if-is_of.false)

@@ -1,25 +1,25 @@
 -- `origin` meets its contract: by what `origin_says` says.
+use Rattle.std.specs.Prelude.{Ok}
 use mathlib.Core.Path.{◌≡◌, sym, ◌∙◌}
-use Rattle.refusal.specs.declared.Outcome.TheVariants.{Done}
 use Rattle.origin.specs.Origin.{origin_check, origin_in}
 use Rattle.origin.proofs.Laws.{origin_stamped}
 use Rattle.origin.proofs.origin.Goals as goal
 
 -- where it does not refuse
-says : (c : goal.In-Done) → let a = c.args in origin_check a.magic a.sync.now a.follow.now ≡ Done
+says : (c : goal.In-Ok) → let a = c.args in origin_check a.magic a.sync.now a.follow.now ≡ Ok tt
 says c =
-    sym c.origin_says.ensures ∙ c.in-Done.is
+    sym c.origin_says.ensures ∙ c.in-Ok.is
 
 pub checked_origin-requires : goal.checked_origin-requires
 checked_origin-requires c =
     origin_stamped _ _ _ (says c)
 
-pub returns-in-Refused : goal.returns-in-Refused
+pub returns-in-Err : goal.returns-in-Err
 unfolding origin_in
-returns-in-Refused c =
-    rw (← c.origin_says.ensures, c.in-Refused.is)
+returns-in-Err c =
+    rw (← c.origin_says.ensures, c.in-Err.is)
 
-pub returns-in-Done : goal.returns-in-Done
+pub returns-in-Ok : goal.returns-in-Ok
 unfolding origin_in
-returns-in-Done c =
-    rw ((let it : let a = c.args in origin_check a.magic a.sync.now a.follow.now ≡ Done = sym c.origin_says.ensures ∙ c.in-Done.is in it)) c.checked_origin.ensures
+returns-in-Ok c =
+    rw ((let it : let a = c.args in origin_check a.magic a.sync.now a.follow.now ≡ Ok tt = sym c.origin_says.ensures ∙ c.in-Ok.is in it)) c.checked_origin.ensures

@@ -43,7 +43,7 @@ loop-at-preserved c =
     let b = c.part-s.result.now in
     let k = block_inside s c.loop-at.at c.loop-at-test.true b c.part-s.ensures in (
       k.1,
-      sym (look_more c.loop-at.read c.in-Sound.after b (blocks_in (drop (c.loop-at.at + length b) s)) (sym c.judge-v.ensures ∙ c.in-Sound.is))
+      sym (look_more c.loop-at.read c.in-Ok.after b (blocks_in (drop (c.loop-at.at + length b) s)) (sym c.judge-v.ensures ∙ c.in-Ok.is))
           ∙ sym (ap (replay_by c.loop-at.read) (blocks_more s c.loop-at.at c.loop-at-test.true b c.part-s.ensures))
           ∙ c.loop-at.invariant.1,
     )

@@ -10,17 +10,17 @@ use Rattle.playback.proofs.replay.Goals as goal
 pub take_trace-requires : goal.take_trace-requires
 take_trace-requires c =
     let a = c.args in
-    until_accepted a.trace.now c.in-Until.t (sym c.judged.ensures ∙ c.in-Until.is)
+    until_accepted a.trace.now c.in-Ok.t (sym c.judged.ensures ∙ c.in-Ok.is)
 
-pub returns-in-Refused-clause-words : goal.returns-in-Refused-clause-words
-returns-in-Refused-clause-words c =
+pub returns-in-Err-clause-words : goal.returns-in-Err-clause-words
+returns-in-Err-clause-words c =
     let a = c.args in
-    let e = sym c.judged.ensures ∙ c.in-Refused.is in
-    sym (refused_trace a.set a.words.now a.trace.now c.in-Refused.x e)
+    let e = sym c.judged.ensures ∙ c.in-Err.is in
+    sym (refused_trace a.set a.words.now a.trace.now c.in-Err.x e)
 
-pub returns-in-Until-clause-words : goal.returns-in-Until-clause-words
-returns-in-Until-clause-words c =
+pub returns-in-Ok-clause-words : goal.returns-in-Ok-clause-words
+returns-in-Ok-clause-words c =
     let a = c.args in
-    let e = sym c.judged.ensures ∙ c.in-Until.is in c.take_trace.ensures
+    let e = sym c.judged.ensures ∙ c.in-Ok.is in c.take_trace.ensures
     ∙ ap (λ (ws : List ℕ). run ws (calls_of a.set (entries_of_all (blocks_in a.trace.now)))) c.clear.ensures
-    ∙ sym (accepted_words a.set a.words.now a.trace.now (until_accepted a.trace.now c.in-Until.t e))
+    ∙ sym (accepted_words a.set a.words.now a.trace.now (until_accepted a.trace.now c.in-Ok.t e))

@@ -13,10 +13,10 @@ returns-in_default c =
 pub take_all-requires : goal.take_all-requires
 take_all-requires c =
     let a = c.args in
-    (sound_laid (reader_of a.reader.now) a.s.now c.in-Sound.after (sym c.judge-v.ensures ∙ c.in-Sound.is)).0
+    (sound_laid (reader_of a.reader.now) a.s.now c.in-Ok.after (sym c.judge-v.ensures ∙ c.in-Ok.is)).0
 
 pub returns : goal.returns
 returns c =
     let a = c.args in
-    let p = block_done a.set a.reader.now a.words.now a.s.now c.in-Sound.after c.take_all.new.words (sym c.judge-v.ensures ∙ c.in-Sound.is) c.take_all.ensures in
+    let p = block_done a.set a.reader.now a.words.now a.s.now c.in-Ok.after c.take_all.new.words (sym c.judge-v.ensures ∙ c.in-Ok.is) c.take_all.ensures in
     record { answer = p.0; words = p.1.0; reader = p.1.1 }

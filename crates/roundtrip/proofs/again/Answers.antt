@@ -1,4 +1,5 @@
 -- `again` meets its contract: what writing allows is read as it was.
+use Rattle.std.specs.Prelude.{Ok, Err}
 use mathlib.Core.Path.{sym, ap, ◌∙◌}
 use mathlib.Core.List.{List}
 use mir.Val.{Val}
@@ -7,7 +8,6 @@ use borrow.Author.Rules.{rules}
 use Rattle.message.specs.Reading.{read_of}
 use Rattle.message.specs.declared.fields.Body.{Body}
 use Rattle.message.specs.declared.fields.Body.TheVariants as body
-use Rattle.message.specs.declared.reading.Reading.TheVariants as reading
 use Rattle.message.specs.contracts.fields.Body as rows
 use Rattle.roundtrip.specs.Range.{HeaderRange, BodyRange, MessageRange}
 use Rattle.roundtrip.proofs.ReadBack.{buffer_back}
@@ -30,16 +30,16 @@ body_range (body.Signaling p) vs h = search rules
 range : (c : goal.After-read) → MessageRange c.args.m
 range c = record { header = header_range c; body = body_range c.args.m.body c.well_formed.1.0.0.1.0 c.well_formed.1.0.1.1.1.0 }
 
-pub returns-in-Refused-clause-answer : goal.returns-in-Refused-clause-answer
-returns-in-Refused-clause-answer c =
+pub returns-in-Err-clause-answer : goal.returns-in-Err-clause-answer
+returns-in-Err-clause-answer c =
     let a = c.args in
-    not_written a.magic a.m a.tail.now a.out.now reading.Refused (reading.Whole a.m) (sym c.write.ensures.answer ∙ c.in-Refused.is)
+    not_written a.magic a.m a.tail.now a.out.now Err (Ok a.m) (sym c.write.ensures.answer ∙ c.in-Err.is)
 
-pub returns-in-Octets-clause-answer : goal.returns-in-Octets-clause-answer
-returns-in-Octets-clause-answer c =
+pub returns-in-Ok-clause-answer : goal.returns-in-Ok-clause-answer
+returns-in-Ok-clause-answer c =
     let a = c.args in
-    let e = sym c.write.ensures.answer ∙ c.in-Octets.is in
+    let e = sym c.write.ensures.answer ∙ c.in-Ok.is in
     c.read.ensures
     ∙ ap (read_of a.magic) c.write.ensures.buffer
     ∙ (buffer_back a.magic a.m a.tail.now (range c) a.out.now _ e).0.message
-    ∙ is_written_lem a.magic a.m a.tail.now a.out.now reading.Refused (reading.Whole a.m) e
+    ∙ is_written_lem a.magic a.m a.tail.now a.out.now Err (Ok a.m) e

@@ -1,4 +1,5 @@
 -- `link_again` meets its contract: a link message that writing allows is read as it was.
+use Rattle.std.specs.Prelude.{Some, Ok, Err}
 use Prim.Native.Nat.{◌^◌, ◌<◌}
 use mathlib.Core.Path.{sym, ap, ◌∙◌}
 use mathlib.Core.List.{List}
@@ -9,7 +10,6 @@ use Rattle.tlv.specs.declared.wr.LinkMessage.{LinkMessage}
 use Rattle.tlv.specs.declared.wr.LinkMessage.TheVariants.{SlavePresent, Lock, Locked, Calibrate, Calibrated, ModeOn}
 use Rattle.tlv.specs.contracts.wr.LinkMessage as rows
 use Rattle.contents.specs.Parts.{link_of}
-use Rattle.contents.specs.declared.parts.LinkRead.TheVariants as link
 use Rattle.wr_tlvs.specs.Built.{link_octets, signaling}
 use Rattle.roundtrip.specs.Range.{LinkRange}
 use Rattle.roundtrip.proofs.WrBack.{link_back}
@@ -28,17 +28,17 @@ link_range (Calibrate pattern retry period) vs h = search rules
 link_range (Calibrated tx rx) vs h = search rules
 link_range ModeOn vs h = tt
 
-pub returns-in-Refused-clause-answer : goal.returns-in-Refused-clause-answer
-returns-in-Refused-clause-answer c =
+pub returns-in-Err-clause-answer : goal.returns-in-Err-clause-answer
+returns-in-Err-clause-answer c =
     let a = c.args in
-    not_written a.magic (signaling a.header a.target) (link_octets a.magic a.x) a.out.now link.Refused (link.Message a.x)
-    (sym c.write_link.ensures.answer ∙ c.in-Refused.is)
+    not_written a.magic (signaling a.header a.target) (link_octets a.magic a.x) a.out.now Err (Ok (Some a.x))
+    (sym c.write_link.ensures.answer ∙ c.in-Err.is)
 
-pub returns-in-Octets-clause-answer : goal.returns-in-Octets-clause-answer
-returns-in-Octets-clause-answer c =
+pub returns-in-Ok-clause-answer : goal.returns-in-Ok-clause-answer
+returns-in-Ok-clause-answer c =
     let a = c.args in
-    let e = sym c.write_link.ensures.answer ∙ c.in-Octets.is in
+    let e = sym c.write_link.ensures.answer ∙ c.in-Ok.is in
     c.link_message.ensures
     ∙ ap (link_of a.magic) c.write_link.ensures.buffer
     ∙ link_back a.magic (small c) a.header a.target a.x a.out.now _ (link_range a.x _ c.well_formed.1.1.1.0) e
-    ∙ is_written_lem a.magic (signaling a.header a.target) (link_octets a.magic a.x) a.out.now link.Refused (link.Message a.x) e
+    ∙ is_written_lem a.magic (signaling a.header a.target) (link_octets a.magic a.x) a.out.now Err (Ok (Some a.x)) e

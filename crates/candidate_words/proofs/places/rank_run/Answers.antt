@@ -14,12 +14,12 @@ fill-p-requires c =
       inside_none run c.none.result c.none.ensures.0 c.none.ensures.1,
       omega arith,
       omega arith,
-      λ i h k. fit_each run (passed run (sym c.checked-x.ensures ∙ c.in-Done.is)) i k,
+      λ i h k. fit_each run (passed run (sym c.checked-x.ensures ∙ c.in-Ok.is)) i k,
     )
 
-pub returns-in-Done-clause-words : goal.returns-in-Done-clause-words
-returns-in-Done-clause-words c =
+pub returns-in-Ok-clause-words : goal.returns-in-Ok-clause-words
+returns-in-Ok-clause-words c =
     let run = c.args.run.now in
-    let h = passed run (sym c.checked-x.ensures ∙ c.in-Done.is) in
+    let h = passed run (sym c.checked-x.ensures ∙ c.in-Ok.is) in
     let list = filled run c.none.result c.fill-p.result h c.none.ensures.0 c.none.ensures.1 c.fill-p.ensures.list in
     rw (h.ranking, h.fits) (c.put.ensures ∙ ap (λ (l : List Candidate). ranked_words (pack l)) list)

@@ -1,4 +1,5 @@
 -- `search::is_sound` meets its contract: along the walk neither the first break nor the first misfit changes.
+use Rattle.std.specs.Prelude.{Some}
 use mathlib.Core.Path.{◌≡◌, refl, sym, ◌∙◌}
 use mathlib.Core.Bool.{and-false}
 use native.Mathlib.Omega.{arith}
@@ -8,15 +9,14 @@ use Rattle.refusal.specs.Choice.{pick}
 use Rattle.tlv.specs.Walk.{next_of, broken}
 use Rattle.tlv.specs.Form.{misfit_at}
 use Rattle.tlv.specs.Faults.{whole, misfit, is_sound}
-use Rattle.tlv.specs.declared.walk.Next.TheVariants.{At}
 use Rattle.tlv.proofs.WalkLaws.{next_fits, next_whole, next_size, walk_end, walk_bad, walk_more}
 use Rattle.tlv.proofs.FaultLaws.{misfit_by_lem, lt_eqb}
 use Rattle.contents.proofs.search.is_sound.Goals as goal
 
 -- a turn's step
-stepped : (c : goal.In-At) → next_of c.args.t.now c.loop-at.at ≡ At c.in-At.p
+stepped : (c : goal.In-Some) → next_of c.args.t.now c.loop-at.at ≡ Some c.in-Some.p
 stepped c =
-    sym c.step.ensures ∙ c.in-At.is
+    sym c.step.ensures ∙ c.in-Some.is
 
 pub returns-in_default : goal.returns-in_default
 unfolding is_sound
@@ -45,17 +45,17 @@ number_at-x-requires-clause-l_value c =
 pub returns-then-misfits : goal.returns-then-misfits
 unfolding is_sound
 returns-then-misfits c =
-    rw (← (let it : let a = c.args in pick c.misfits.result c.loop-at.at (misfit a.magic a.t.now c.in-At.p) ≡ misfit a.magic a.t.now 0 = rw ((let it : let a = c.args in c.misfits.result ≡ misfit_at a.magic a.t.now c.loop-at.at = misfit_by_lem _ _ _ c.number_at-x.ensures (next_size _ _ ((let it : next_of c.args.t.now c.loop-at.at ≡ At c.in-At.p = sym c.step.ensures ∙ c.in-At.is in it))) c.misfits.ensures in it)) (sym (walk_more _ _ _ _ _ _ c.loop-at-test.true ((let it : next_of c.args.t.now c.loop-at.at ≡ At c.in-At.p = sym c.step.ensures ∙ c.in-At.is in it))) ∙ c.loop-at.invariant.2) in it), c.if-misfits.true, lt_eqb _ _ c.loop-at-test.true) (sym (and-false (whole c.args.t.now)))
+    rw (← (let it : let a = c.args in pick c.misfits.result c.loop-at.at (misfit a.magic a.t.now c.in-Some.p) ≡ misfit a.magic a.t.now 0 = rw ((let it : let a = c.args in c.misfits.result ≡ misfit_at a.magic a.t.now c.loop-at.at = misfit_by_lem _ _ _ c.number_at-x.ensures (next_size _ _ ((let it : next_of c.args.t.now c.loop-at.at ≡ Some c.in-Some.p = sym c.step.ensures ∙ c.in-Some.is in it))) c.misfits.ensures in it)) (sym (walk_more _ _ _ _ _ _ c.loop-at-test.true ((let it : next_of c.args.t.now c.loop-at.at ≡ Some c.in-Some.p = sym c.step.ensures ∙ c.in-Some.is in it))) ∙ c.loop-at.invariant.2) in it), c.if-misfits.true, lt_eqb _ _ c.loop-at-test.true) (sym (and-false (whole c.args.t.now)))
 
 pub loop-at-smaller : goal.loop-at-smaller
 loop-at-smaller c =
-    let n = next_fits _ _ ((let it : next_of c.args.t.now c.loop-at.at ≡ At c.in-At.p = sym c.step.ensures ∙ c.in-At.is in it)) in omega arith
+    let n = next_fits _ _ ((let it : next_of c.args.t.now c.loop-at.at ≡ Some c.in-Some.p = sym c.step.ensures ∙ c.in-Some.is in it)) in omega arith
 
 pub loop-at-preserved : goal.loop-at-preserved
 loop-at-preserved c = (
-  (next_fits _ _ ((let it : next_of c.args.t.now c.loop-at.at ≡ At c.in-At.p = sym c.step.ensures ∙ c.in-At.is in it))).1,
-  sym (walk_more _ _ _ _ _ _ c.loop-at-test.true ((let it : next_of c.args.t.now c.loop-at.at ≡ At c.in-At.p = sym c.step.ensures ∙ c.in-At.is in it))) ∙ c.loop-at.invariant.1,
-  rw c.if-misfits.false at ((let it : let a = c.args in pick c.misfits.result c.loop-at.at (misfit a.magic a.t.now c.in-At.p) ≡ misfit a.magic a.t.now 0 = rw ((let it : let a = c.args in c.misfits.result ≡ misfit_at a.magic a.t.now c.loop-at.at = misfit_by_lem _ _ _ c.number_at-x.ensures (next_size _ _ ((let it : next_of c.args.t.now c.loop-at.at ≡ At c.in-At.p = sym c.step.ensures ∙ c.in-At.is in it))) c.misfits.ensures in it)) (sym (walk_more _ _ _ _ _ _ c.loop-at-test.true ((let it : next_of c.args.t.now c.loop-at.at ≡ At c.in-At.p = sym c.step.ensures ∙ c.in-At.is in it))) ∙ c.loop-at.invariant.2) in it)),
+  (next_fits _ _ ((let it : next_of c.args.t.now c.loop-at.at ≡ Some c.in-Some.p = sym c.step.ensures ∙ c.in-Some.is in it))).1,
+  sym (walk_more _ _ _ _ _ _ c.loop-at-test.true ((let it : next_of c.args.t.now c.loop-at.at ≡ Some c.in-Some.p = sym c.step.ensures ∙ c.in-Some.is in it))) ∙ c.loop-at.invariant.1,
+  rw c.if-misfits.false at ((let it : let a = c.args in pick c.misfits.result c.loop-at.at (misfit a.magic a.t.now c.in-Some.p) ≡ misfit a.magic a.t.now 0 = rw ((let it : let a = c.args in c.misfits.result ≡ misfit_at a.magic a.t.now c.loop-at.at = misfit_by_lem _ _ _ c.number_at-x.ensures (next_size _ _ ((let it : next_of c.args.t.now c.loop-at.at ≡ Some c.in-Some.p = sym c.step.ensures ∙ c.in-Some.is in it))) c.misfits.ensures in it)) (sym (walk_more _ _ _ _ _ _ c.loop-at-test.true ((let it : next_of c.args.t.now c.loop-at.at ≡ Some c.in-Some.p = sym c.step.ensures ∙ c.in-Some.is in it))) ∙ c.loop-at.invariant.2) in it)),
 )
 
 pub returns : goal.returns

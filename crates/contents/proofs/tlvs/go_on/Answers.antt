@@ -1,20 +1,20 @@
 -- `tlvs::go_on` meets its contract: the checks before the tail's, then what stands at the octet.
+use Rattle.std.specs.Prelude.{None, Result, Ok, Err}
 use Prim.Native.Nat.{ℕ, ◌-◌, ◌^◌, ◌<◌, ◌≤◌}
 use mathlib.Core.Path.{◌≡◌, sym, ap, ◌∙◌}
 use native.Mathlib.Omega.{arith}
 use lib.ListN.{length-take}
 use Rattle.octets.specs.Be.{be}
 use Rattle.octets.proofs.Laws.{be_below}
-use Rattle.refusal.specs.declared.Outcome.{Outcome}
 use Rattle.message.specs.Reading.{by}
 use Rattle.contents.specs.Sound.{bounds_at}
 use Rattle.contents.specs.Tlvs.{standing}
 use Rattle.message.specs.When.{IsStamped}
 use Rattle.contents.specs.declared.sound.Bounds.{Bounds}
-use Rattle.contents.specs.declared.tlvs.Walked.TheVariants as walked
 use Rattle.contents.proofs.SoundLaws.{told_bounds, part_tail}
 use Rattle.contents.proofs.TlvLaws.{headed_passed, headed_refused}
 use Rattle.contents.proofs.tlvs.go_on.Goals as goal
+use Rattle.refusal.specs.declared.Refusal.{Refusal}
 
 -- the lengths are those of octets that pass the checks before the tail's
 told : (c : goal.Else-size-eq0) → let s = c.args.s.now in IsStamped s × (c.fixed_bounds-b.result ≡ bounds_at s)
@@ -28,8 +28,8 @@ least c =
 pub returns-then-size-eq0 : goal.returns-then-size-eq0
 returns-then-size-eq0 c =
     c.unwalked.ensures
-    ∙ ap (λ (x : Outcome). by x walked.Refused walked.End) c.check.ensures
-    ∙ headed_refused walked.Refused _ walked.End _ _ (ap (λ (x : Bounds). x.size) (sym c.fixed_bounds-b.ensures) ∙ c.if-size-eq0.true)
+    ∙ ap (λ (x : Result (Unit {0}) Refusal). by x Err (Ok None)) c.check.ensures
+    ∙ headed_refused Err _ (Ok None) _ _ (ap (λ (x : Bounds). x.size) (sym c.fixed_bounds-b.ensures) ∙ c.if-size-eq0.true)
 
 pub slice_bounds-stands_at-count : goal.slice_bounds-stands_at-count
 slice_bounds-stands_at-count c =
@@ -59,4 +59,4 @@ returns c =
     let p = c.behind.ensures ∙ ap (λ (n : ℕ). a.from - n) z in
     c.stands_at.ensures
     ∙ (λ i. standing a.magic (z i) (part_tail _ t.1 i) (p i))
-    ∙ sym (headed_passed walked.Refused _ _ t.0)
+    ∙ sym (headed_passed Err _ _ t.0)

@@ -9,23 +9,23 @@ use Rattle.contents.proofs.tlvs.next_data.Goals as goal
 
 pub slice_bounds-result-end : goal.slice_bounds-result-end
 slice_bounds-result-end c =
-    let l = (let it : let a = c.args in end_of c.in-Next.x ≤ length a.s.now = let e = sym c.next_tlv.ensures ∙ c.in-Next.is in
+    let l = (let it : let a = c.args in end_of c.in-Ok-Some.x ≤ length a.s.now = let e = sym c.next_tlv.ensures ∙ c.in-Ok-Some.is in
     let i = next_inside _ _ _ _ e in
     omega (arith, i.inside, i.lent) in it) in omega arith
 
-pub returns-in-Next : goal.returns-in-Next
+pub returns-in-Ok-Some : goal.returns-in-Ok-Some
 unfolding data_from
-returns-in-Next c =
-    let v = c.in-Next.x in
+returns-in-Ok-Some c =
+    let v = c.in-Ok-Some.x in
     let n : v.place + 4 + v.length - (v.place + 4) ≡ v.length = omega arith in
-    rw (← c.next_tlv.ensures, c.in-Next.is, n)
+    rw (← c.next_tlv.ensures, c.in-Ok-Some.is, n)
 
-pub returns-in-End : goal.returns-in-End
+pub returns-in-Ok-None : goal.returns-in-Ok-None
 unfolding data_from
-returns-in-End c =
-    rw (← c.next_tlv.ensures, c.in-End.is)
+returns-in-Ok-None c =
+    rw (← c.next_tlv.ensures, c.in-Ok-None.is)
 
-pub returns-in-Refused : goal.returns-in-Refused
+pub returns-in-Err : goal.returns-in-Err
 unfolding data_from
-returns-in-Refused c =
-    rw (← c.next_tlv.ensures, c.in-Refused.is)
+returns-in-Err c =
+    rw (← c.next_tlv.ensures, c.in-Err.is)

@@ -1,21 +1,20 @@
 -- `tlvs::stands_at` meets its contract: at each way out the tests before it are known.
+use Rattle.std.specs.Prelude.{Some, Ok, Err}
 use mathlib.Core.Path.{◌≡◌, sym, ◌∙◌}
 use native.Mathlib.Omega.{arith}
 use borrow.Author.Tests.{le-leb, lt-leb}
 use Rattle.refusal.specs.declared.Refusal.TheVariants.{Tlv, WrBad}
 use Rattle.tlv.specs.Walk.{next_of}
 use Rattle.tlv.specs.Form.{misfit_at}
-use Rattle.tlv.specs.declared.walk.Next.TheVariants.{At}
 use Rattle.tlv.proofs.WalkLaws.{next_fits, next_whole, next_size}
 use Rattle.tlv.proofs.FaultLaws.{misfit_by_lem}
 use Rattle.contents.specs.Tlvs.{standing}
-use Rattle.contents.specs.declared.tlvs.Walked.TheVariants as walked
 use Rattle.contents.proofs.tlvs.stands_at.Goals as goal
 
 -- a TLV stands there
-stepped : (c : goal.In-At) → let a = c.args in next_of a.t.now a.p ≡ At c.in-At.q
+stepped : (c : goal.In-Some) → let a = c.args in next_of a.t.now a.p ≡ Some c.in-Some.q
 stepped c =
-    sym c.step.ensures ∙ c.in-At.is
+    sym c.step.ensures ∙ c.in-Some.is
 
 pub returns-then-t-p : goal.returns-then-t-p
 unfolding standing
@@ -25,7 +24,7 @@ returns-then-t-p c =
 pub returns-in_default : goal.returns-in_default
 unfolding standing
 returns-in_default c =
-    rw (lt-leb _ _ c.if-t-p.false, ← c.step.ensures, c.in_default.is) (λ i. walked.Refused (Tlv (c.place_in-place.ensures i)))
+    rw (lt-leb _ _ c.if-t-p.false, ← c.step.ensures, c.in_default.is) (λ i. Err (Tlv (c.place_in-place.ensures i)))
 
 pub overflow_sub-l : goal.overflow_sub-l
 overflow_sub-l c =
@@ -46,19 +45,19 @@ number_at-x-requires-clause-l_value c =
 pub returns-then-misfits : goal.returns-then-misfits
 unfolding standing
 returns-then-misfits c =
-    rw (lt-leb _ _ c.if-t-p.false, (let it : let a = c.args in next_of a.t.now a.p ≡ At c.in-At.q = sym c.step.ensures ∙ c.in-At.is in it), ← (let it : let a = c.args in c.misfits.result ≡ misfit_at a.magic a.t.now a.p = misfit_by_lem _ _ _ c.number_at-x.ensures (next_size _ _ ((let it : let a = c.args in next_of a.t.now a.p ≡ At c.in-At.q = sym c.step.ensures ∙ c.in-At.is in it))) c.misfits.ensures in it), c.if-misfits.true) (λ i. walked.Refused (WrBad (c.place_in-place.ensures i)))
+    rw (lt-leb _ _ c.if-t-p.false, (let it : let a = c.args in next_of a.t.now a.p ≡ Some c.in-Some.q = sym c.step.ensures ∙ c.in-Some.is in it), ← (let it : let a = c.args in c.misfits.result ≡ misfit_at a.magic a.t.now a.p = misfit_by_lem _ _ _ c.number_at-x.ensures (next_size _ _ ((let it : let a = c.args in next_of a.t.now a.p ≡ Some c.in-Some.q = sym c.step.ensures ∙ c.in-Some.is in it))) c.misfits.ensures in it), c.if-misfits.true) (λ i. Err (WrBad (c.place_in-place.ensures i)))
 
 pub u16_at-requires : goal.u16_at-requires
 u16_at-requires c =
-    let n = next_fits _ _ ((let it : let a = c.args in next_of a.t.now a.p ≡ At c.in-At.q = sym c.step.ensures ∙ c.in-At.is in it)) in omega arith
+    let n = next_fits _ _ ((let it : let a = c.args in next_of a.t.now a.p ≡ Some c.in-Some.q = sym c.step.ensures ∙ c.in-Some.is in it)) in omega arith
 
 pub overflow_cast-result : goal.overflow_cast-result
 overflow_cast-result c =
-    let n = next_fits _ _ ((let it : let a = c.args in next_of a.t.now a.p ≡ At c.in-At.q = sym c.step.ensures ∙ c.in-At.is in it)) in record { fits = omega arith }
+    let n = next_fits _ _ ((let it : let a = c.args in next_of a.t.now a.p ≡ Some c.in-Some.q = sym c.step.ensures ∙ c.in-Some.is in it)) in record { fits = omega arith }
 
 pub returns : goal.returns
 unfolding standing
 returns c =
-    let l = next_size _ _ ((let it : let a = c.args in next_of a.t.now a.p ≡ At c.in-At.q = sym c.step.ensures ∙ c.in-At.is in it)) in
-    rw (lt-leb _ _ c.if-t-p.false, (let it : let a = c.args in next_of a.t.now a.p ≡ At c.in-At.q = sym c.step.ensures ∙ c.in-At.is in it), ← (let it : let a = c.args in c.misfits.result ≡ misfit_at a.magic a.t.now a.p = misfit_by_lem _ _ _ c.number_at-x.ensures (next_size _ _ ((let it : let a = c.args in next_of a.t.now a.p ≡ At c.in-At.q = sym c.step.ensures ∙ c.in-At.is in it))) c.misfits.ensures in it), c.if-misfits.false)
-    (λ i. walked.Next (record { place = c.place_in-place.ensures i; kind = c.u16_at.ensures i; length = l i }))
+    let l = next_size _ _ ((let it : let a = c.args in next_of a.t.now a.p ≡ Some c.in-Some.q = sym c.step.ensures ∙ c.in-Some.is in it)) in
+    rw (lt-leb _ _ c.if-t-p.false, (let it : let a = c.args in next_of a.t.now a.p ≡ Some c.in-Some.q = sym c.step.ensures ∙ c.in-Some.is in it), ← (let it : let a = c.args in c.misfits.result ≡ misfit_at a.magic a.t.now a.p = misfit_by_lem _ _ _ c.number_at-x.ensures (next_size _ _ ((let it : let a = c.args in next_of a.t.now a.p ≡ Some c.in-Some.q = sym c.step.ensures ∙ c.in-Some.is in it))) c.misfits.ensures in it), c.if-misfits.false)
+    (λ i. Ok (Some (record { place = c.place_in-place.ensures i; kind = c.u16_at.ensures i; length = l i })))

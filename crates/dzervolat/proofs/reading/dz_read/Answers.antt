@@ -1,9 +1,9 @@
 -- `dz_read` meets its contract: a message in which nothing is wrong is put into the words, and of any other the checks say why not.
+use Rattle.std.specs.Prelude.{Ok}
 use mathlib.Core.Path.{◌≡◌, refl, ap, ◌∙◌}
 use native.Mathlib.Omega.{arith}
 use lib.ListN.{length}
 use Rattle.refusal.specs.Refusal.{code_of}
-use Rattle.refusal.specs.declared.Outcome.TheVariants.{Done}
 use Rattle.message.specs.Reading.{check_of, read_of}
 use Rattle.contents.specs.Parts.{tail_in}
 use Rattle.contents.specs.Sound.{bounds_at}
@@ -15,7 +15,7 @@ use Rattle.dzervolat.proofs.reading.dz_read.Goals as goal
 
 -- a message whose lengths are told passes the checks
 whole : (c : goal.Else-size-eq0) → let a = c.args in
-    (check_of a.magic a.octets.now ≡ Done) × (c.sound_bounds-b.result ≡ bounds_at a.octets.now)
+    (check_of a.magic a.octets.now ≡ Ok tt) × (c.sound_bounds-b.result ≡ bounds_at a.octets.now)
 whole c =
     whole_bounds _ _ c.sound_bounds-b.ensures c.if-size-eq0.false
 

@@ -1,4 +1,5 @@
 -- `next_at` meets its contract: it looks at the two tests one after the other, and a record that would begin too late for its head is not whole.
+use Rattle.std.specs.Prelude.{Some}
 use Prim.Native.Nat.{◌+◌, ◌-◌, ◌<◌, ◌≤◌}
 use mathlib.Core.Path.{◌≡◌, sym, ap, ◌∙◌}
 use mathlib.Core.Bool.{true}
@@ -7,7 +8,6 @@ use lib.Dec.{leb}
 use borrow.Author.Tests.{lt-leb, le-leb}
 use Rattle.block.specs.Layout.{length_at, end_at}
 use Rattle.judging.specs.Walking.{record_at}
-use Rattle.judging.specs.declared.walking.Next.TheVariants.{Found}
 use Rattle.refusal.specs.Limits.{is_port}
 use Rattle.judging.proofs.walking.next_at.Goals as goal
 
@@ -45,4 +45,4 @@ returns c =
     let f = sym (ap is_port c.port_at-port.ensures) ∙ sym c.is_port.ensures ∙ c.if-not-is_port.false in
     let e = c.end_at-end.ensures in
     let n : c.end_at-end.result - 11 - g.at ≡ length_at g.s.now g.at = omega (arith, e) in
-    rw (whole, f) (λ i. Found (record { time = c.time_at.ensures i; port = c.port_at-port.ensures i; at = g.at + 11; length = n i; end = e i }))
+    rw (whole, f) (λ i. Some (record { time = c.time_at.ensures i; port = c.port_at-port.ensures i; at = g.at + 11; length = n i; end = e i }))

@@ -1,5 +1,6 @@
 -- `announce::read_announce` meets its contract: what is read in one walk passes the checks, and what is left to them
 -- cannot be an Announce that they accept.
+use Rattle.std.specs.Prelude.{Some, Ok, Err}
 use Prim.Native.Nat.{◌-◌}
 use mathlib.Core.Path.{◌≡◌, sym, ap, ◌∙◌}
 use native.Mathlib.Omega.{arith}
@@ -9,11 +10,9 @@ use Rattle.refusal.specs.Choice.{refuse}
 use Rattle.tlv.specs.Wr.{suffix_in, wr_flags_of}
 use Rattle.tlv.specs.Form.{suffix_at}
 use Rattle.tlv.specs.Faults.{sound_of}
-use Rattle.tlv.specs.declared.walk.Sound.TheVariants.{FirstAt}
 use Rattle.tlv.proofs.FaultLaws.{sound_check, faulty_check}
 use Rattle.message.specs.Fields.{length_of, tail_of}
 use Rattle.message.specs.Announced.{announced_of}
-use Rattle.message.specs.declared.announce.Announced.TheVariants as announced
 use Rattle.message.proofs.Laws.{accepted}
 use Rattle.message.proofs.AnnounceLaws.{Sized, sized, sized_tail, unsized, unstamped, sized_check, by_checks}
 use Rattle.message.proofs.announce.read_announce.Goals as goal
@@ -25,7 +24,7 @@ sizes c =
 
 pub returns-then-length-eq0 : goal.returns-then-length-eq0
 returns-then-length-eq0 c =
-    ap announced.Refused c.refusal_of.ensures
+    ap Err c.refusal_of.ensures
     ∙ by_checks _ _ (unsized _ _ (sym c.announce_length-length.ensures ∙ c.if-length-eq0.true))
 
 pub u32_at-nanoseconds-requires : goal.u32_at-nanoseconds-requires
@@ -34,7 +33,7 @@ u32_at-nanoseconds-requires c =
 
 pub returns-then-nanoseconds-ge-SECOND_NANOS : goal.returns-then-nanoseconds-ge-SECOND_NANOS
 returns-then-nanoseconds-ge-SECOND_NANOS c =
-    ap announced.Refused c.refusal_of-then-nanoseconds-ge-SECOND_NANOS.ensures ∙ by_checks _ _ (unstamped _ _ (rw c.u32_at-nanoseconds.ensures at c.if-nanoseconds-ge-SECOND_NANOS.true))
+    ap Err c.refusal_of-then-nanoseconds-ge-SECOND_NANOS.ensures ∙ by_checks _ _ (unstamped _ _ (rw c.u32_at-nanoseconds.ensures at c.if-nanoseconds-ge-SECOND_NANOS.true))
 
 pub slice_bounds-t-count : goal.slice_bounds-t-count
 slice_bounds-t-count c =
@@ -50,7 +49,7 @@ slice_bounds-t-end c =
 
 pub returns-in_default : goal.returns-in_default
 returns-in_default c =
-    ap announced.Refused c.refusal_of-in_default.ensures
+    ap Err c.refusal_of-in_default.ensures
     ∙ by_checks _ _
     (λ d k. faulty_check _ _ _ (sym c.sound_suffix.ensures ∙ c.in_default.is) (rw ((let it : let s = c.args.s.now in tail_of s ≡ take (c.announce_length-length.result - 64) (drop 64 s) = sized_tail _ ((let it : let s = c.args.s.now in Sized s × (length_of s ≡ c.announce_length-length.result) = sized _ (λ e. c.if-length-eq0.false (sym e)) (sym c.announce_length-length.ensures) in it)) in it)) at (accepted _ _ d).tail))
 
@@ -67,10 +66,10 @@ pub returns : goal.returns
 unfolding announced_of refuse suffix_in
 returns c =
     let z = ((let it : let s = c.args.s.now in Sized s × (length_of s ≡ c.announce_length-length.result) = sized _ (λ e. c.if-length-eq0.false (sym e)) (sym c.announce_length-length.ensures) in it)).0 in
-    let q = sound_check _ _ _ ((let it : let s = c.args in sound_of s.magic (suffix_at s.magic (tail_of s.s.now)) (tail_of s.s.now) ≡ FirstAt c.in-FirstAt.p = rw ((let it : let s = c.args.s.now in tail_of s ≡ take (c.announce_length-length.result - 64) (drop 64 s) = sized_tail _ ((let it : let s = c.args.s.now in Sized s × (length_of s ≡ c.announce_length-length.result) = sized _ (λ e. c.if-length-eq0.false (sym e)) (sym c.announce_length-length.ensures) in it)) in it)) (sym c.sound_suffix.ensures ∙ c.in-FirstAt.is) in it)) in
+    let q = sound_check _ _ _ ((let it : let s = c.args in sound_of s.magic (suffix_at s.magic (tail_of s.s.now)) (tail_of s.s.now) ≡ Some c.in-Some.p = rw ((let it : let s = c.args.s.now in tail_of s ≡ take (c.announce_length-length.result - 64) (drop 64 s) = sized_tail _ ((let it : let s = c.args.s.now in Sized s × (length_of s ≡ c.announce_length-length.result) = sized _ (λ e. c.if-length-eq0.false (sym e)) (sym c.announce_length-length.ensures) in it)) in it)) (sym c.sound_suffix.ensures ∙ c.in-Some.is) in it)) in
     let d = sized_check _ _ z (rw c.u32_at-nanoseconds.ensures at c.if-nanoseconds-ge-SECOND_NANOS.false) q.0 in
     rw (d, eq-eqb _ _ z.type, ← q.1, (let it : let s = c.args.s.now in tail_of s ≡ take (c.announce_length-length.result - 64) (drop 64 s) = sized_tail _ ((let it : let s = c.args.s.now in Sized s × (length_of s ≡ c.announce_length-length.result) = sized _ (λ e. c.if-length-eq0.false (sym e)) (sym c.announce_length-length.ensures) in it)) in it))
-    (λ i. announced.Whole (record {
+    (λ i. Ok (record {
       header = c.header_of.ensures i;
       announce = c.announce_of.ensures i;
       flags = (c.wr_flags-flags.ensures ∙ ap wr_flags_of c.suffix_at.ensures) i;

@@ -2,12 +2,12 @@
 use Rattle.message.specs.Announced.{refusal_of}
 use Rattle.message.proofs.announce.refusal_of.Goals as goal
 
-pub returns-in-Refused : goal.returns-in-Refused
+pub returns-in-Err : goal.returns-in-Err
 unfolding refusal_of
-returns-in-Refused c =
-    rw (← c.check.ensures, c.in-Refused.is)
+returns-in-Err c =
+    rw (← c.check.ensures, c.in-Err.is)
 
-pub returns-in-Done : goal.returns-in-Done
+pub returns-in-Ok : goal.returns-in-Ok
 unfolding refusal_of
-returns-in-Done c =
-    rw (← c.check.ensures, c.in-Done.is)
+returns-in-Ok c =
+    rw (← c.check.ensures, c.in-Ok.is)

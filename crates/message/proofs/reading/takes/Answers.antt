@@ -9,19 +9,19 @@ use Rattle.message.proofs.reading.takes.Goals as goal
 
 pub bounds-s-0 : goal.bounds-s-0
 bounds-s-0 c =
-    omega (arith, (fixed_part _ _ (sym c.check.ensures ∙ c.in-Done.is)).0)
+    omega (arith, (fixed_part _ _ (sym c.check.ensures ∙ c.in-Ok.is)).0)
 
-pub returns-in-Refused : goal.returns-in-Refused
+pub returns-in-Err : goal.returns-in-Err
 unfolding takes_of
-returns-in-Refused c =
-    rw (← c.check.ensures, c.in-Refused.is)
+returns-in-Err c =
+    rw (← c.check.ensures, c.in-Err.is)
 
 pub returns-then-s-kind : goal.returns-then-s-kind
 unfolding refuse takes_of
 returns-then-s-kind c =
-    rw (← c.check.ensures, c.in-Done.is, eq-eqb _ _ c.if-s-kind.true)
+    rw (← c.check.ensures, c.in-Ok.is, eq-eqb _ _ c.if-s-kind.true)
 
 pub returns-else-s-kind : goal.returns-else-s-kind
 unfolding refuse takes_of
 returns-else-s-kind c =
-    rw (← c.check.ensures, c.in-Done.is, ne_eqb _ _ c.if-s-kind.false)
+    rw (← c.check.ensures, c.in-Ok.is, ne_eqb _ _ c.if-s-kind.false)

@@ -29,20 +29,20 @@ unfolding header_of refuse write_check
 returns-then-tail-size c =
     rw (lt-ltb _ _ c.if-w-ge16.false, ← c.body_holds.ensures, c.if-not-body_holds.false, ← c.size_of-size.ensures.0, lt-ltb _ _ (past c))
 
-pub returns-in-Refused : goal.returns-in-Refused
+pub returns-in-Err : goal.returns-in-Err
 unfolding header_of refuse write_check
-returns-in-Refused c =
+returns-in-Err c =
     let h : c.size_of-size.result + length c.args.tail.now ≤ 65535 = omega arith in
-    rw (lt-ltb _ _ c.if-w-ge16.false, ← c.body_holds.ensures, c.if-not-body_holds.false, ← c.size_of-size.ensures.0, le-ltb _ _ h, told_fault _ _ (sym c.tail_check.ensures ∙ c.in-Refused.is))
+    rw (lt-ltb _ _ c.if-w-ge16.false, ← c.body_holds.ensures, c.if-not-body_holds.false, ← c.size_of-size.ensures.0, le-ltb _ _ h, told_fault _ _ (sym c.tail_check.ensures ∙ c.in-Err.is))
 
 pub returns-then-room-size : goal.returns-then-room-size
 unfolding header_of refuse write_check
 returns-then-room-size c =
     let h : c.size_of-size.result + length c.args.tail.now ≤ 65535 = omega arith in
-    rw (lt-ltb _ _ c.if-w-ge16.false, ← c.body_holds.ensures, c.if-not-body_holds.false, ← c.size_of-size.ensures.0, le-ltb _ _ h, told_sound _ _ (sym c.tail_check.ensures ∙ c.in-Done.is), lt-ltb _ _ c.if-room-size.true)
+    rw (lt-ltb _ _ c.if-w-ge16.false, ← c.body_holds.ensures, c.if-not-body_holds.false, ← c.size_of-size.ensures.0, le-ltb _ _ h, told_sound _ _ (sym c.tail_check.ensures ∙ c.in-Ok.is), lt-ltb _ _ c.if-room-size.true)
 
 pub returns-else-room-size : goal.returns-else-room-size
 unfolding header_of refuse write_check
 returns-else-room-size c =
     let h : c.size_of-size.result + length c.args.tail.now ≤ 65535 = omega arith in
-    rw (lt-ltb _ _ c.if-w-ge16.false, ← c.body_holds.ensures, c.if-not-body_holds.false, ← c.size_of-size.ensures.0, le-ltb _ _ h, told_sound _ _ (sym c.tail_check.ensures ∙ c.in-Done.is), le-ltb _ _ c.if-room-size.false)
+    rw (lt-ltb _ _ c.if-w-ge16.false, ← c.body_holds.ensures, c.if-not-body_holds.false, ← c.size_of-size.ensures.0, le-ltb _ _ h, told_sound _ _ (sym c.tail_check.ensures ∙ c.in-Ok.is), le-ltb _ _ c.if-room-size.false)

@@ -10,13 +10,13 @@ unfolding admitted_of
 returns-then-not-is_port c =
     is_refused _ _ c.is_port.ensures _ _ (ap not c.if-not-is_port.true)
 
-pub returns-in-Refused : goal.returns-in-Refused
+pub returns-in-Err : goal.returns-in-Err
 unfolding admitted_of
-returns-in-Refused c =
-    is_passed _ _ c.is_port.ensures _ _ (ap not c.if-not-is_port.false) (ap (admitted_by c.args.set) (sym c.in-Refused.is ∙ c.read_announce-read.ensures))
+returns-in-Err c =
+    is_passed _ _ c.is_port.ensures _ _ (ap not c.if-not-is_port.false) (ap (admitted_by c.args.set) (sym c.in-Err.is ∙ c.read_announce-read.ensures))
 
-pub returns-in-Whole : goal.returns-in-Whole
+pub returns-in-Ok : goal.returns-in-Ok
 unfolding admitted_of
-returns-in-Whole c =
+returns-in-Ok c =
     is_passed _ _ c.is_port.ensures _ _ (ap not c.if-not-is_port.false)
-    (c.judge.ensures ∙ ap (admitted_by c.args.set) (sym c.in-Whole.is ∙ c.read_announce-read.ensures))
+    (c.judge.ensures ∙ ap (admitted_by c.args.set) (sym c.in-Ok.is ∙ c.read_announce-read.ensures))

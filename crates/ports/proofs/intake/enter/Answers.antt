@@ -7,9 +7,9 @@ use Rattle.ports.proofs.intake.enter.Goals as goal
 pub put-requires-clause-ws_len : goal.put-requires-clause-ws_len
 put-requires-clause-ws_len c =
     let g = c.args in
-    let e = sym c.plan-p.ensures ∙ c.in-Put.is in (c.requires.ws_len.0, plan_place g.ws.now g.t g.a _ _ e)
+    let e = sym c.plan-p.ensures ∙ c.in-Ok.is in (c.requires.ws_len.0, plan_place g.ws.now g.t g.a _ _ e)
 
 pub put-requires-clause-identity_value : goal.put-requires-clause-identity_value
 put-requires-clause-identity_value c =
     let g = c.args in
-    let e = sym c.plan-p.ensures ∙ c.in-Put.is in last_two g.s.now g.a c.in-Put.r _ _ (plan_notice g.ws.now g.t g.a _ c.in-Put.r e) c.requires.grandmaster_value c.u64_at-identity.ensures c.grade_at-grade.ensures
+    let e = sym c.plan-p.ensures ∙ c.in-Ok.is in last_two g.s.now g.a c.in-Ok.r _ _ (plan_notice g.ws.now g.t g.a _ c.in-Ok.r e) c.requires.grandmaster_value c.u64_at-identity.ensures c.grade_at-grade.ensures

@@ -1,8 +1,8 @@
 -- `judge` meets its contract: the domain, then our own clock.
+use Rattle.std.specs.Prelude.{Ok}
 use borrow.Author.Tests.{eq-eqb, ne_eqb}
 use mathlib.Core.Path.{ap}
 use Rattle.refusal.specs.Choice.{refuse}
-use Rattle.ports.specs.declared.intake.Admitted.TheVariants.{Notice}
 use Rattle.ports.proofs.intake.judge.Goals as goal
 
 pub returns-then-header-set : goal.returns-then-header-set
@@ -18,4 +18,4 @@ returns-then-source-set c =
 pub returns : goal.returns
 unfolding refuse
 returns c =
-    rw (eq-eqb _ _ c.if-header-set.false, ne_eqb _ _ c.if-source-set.false) (ap Notice c.notice.ensures)
+    rw (eq-eqb _ _ c.if-header-set.false, ne_eqb _ _ c.if-source-set.false) (ap Ok c.notice.ensures)

@@ -1,9 +1,9 @@
 -- `form::number_at` meets its contract: a TLV of the form has eight octets or more behind its length.
+use Rattle.std.specs.Prelude.{Some}
 use mathlib.Core.Path.{◌≡◌, sym, ap, ◌∙◌}
 use mathlib.Core.Bool.{true}
 use native.Mathlib.Omega.{arith}
 use Rattle.tlv.specs.Form.{wr_form, HasForm, numbered}
-use Rattle.tlv.specs.declared.form.Numbered.TheVariants.{Number}
 use Rattle.tlv.proofs.FormLaws.{of_form}
 use Rattle.tlv.proofs.form.number_at.Goals as goal
 
@@ -19,7 +19,7 @@ u16_at-requires c =
 pub returns-then-has_form : goal.returns-then-has_form
 unfolding numbered
 returns-then-has_form c =
-    rw ((let it : let a = c.args in HasForm (wr_form a.magic) a.t.now a.at ≡ true = rw (← c.wr_form.ensures) (sym c.has_form.ensures ∙ c.if-has_form.true) in it)) (ap Number c.u16_at.ensures)
+    rw ((let it : let a = c.args in HasForm (wr_form a.magic) a.t.now a.at ≡ true = rw (← c.wr_form.ensures) (sym c.has_form.ensures ∙ c.if-has_form.true) in it)) (ap Some c.u16_at.ensures)
 
 pub returns : goal.returns
 unfolding numbered

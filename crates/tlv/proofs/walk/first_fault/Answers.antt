@@ -1,4 +1,5 @@
 -- `walk::first_fault` meets its contract: along the walk neither the first break nor the first misfit changes.
+use Rattle.std.specs.Prelude.{Some}
 use mathlib.Core.Path.{◌≡◌, refl, sym, ◌∙◌}
 use native.Mathlib.Omega.{arith}
 use borrow.Author.Tests.{lt-ltb, le-ltb, eq-eqb}
@@ -8,15 +9,14 @@ use Rattle.refusal.specs.Choice.{pick}
 use Rattle.tlv.specs.Walk.{next_of, broken}
 use Rattle.tlv.specs.Form.{misfit_at}
 use Rattle.tlv.specs.Faults.{misfit, fault_of}
-use Rattle.tlv.specs.declared.walk.Next.TheVariants.{At}
 use Rattle.tlv.proofs.WalkLaws.{next_fits, next_whole, next_size, walk_end, walk_bad, walk_more}
 use Rattle.tlv.proofs.FaultLaws.{carried, misfit_by_lem, lt_eqb}
 use Rattle.tlv.proofs.walk.first_fault.Goals as goal
 
 -- a turn's step
-stepped : (c : goal.In-At) → next_of c.args.t.now c.loop-at.at ≡ At c.in-At.p
+stepped : (c : goal.In-Some) → next_of c.args.t.now c.loop-at.at ≡ Some c.in-Some.p
 stepped c =
-    sym c.step.ensures ∙ c.in-At.is
+    sym c.step.ensures ∙ c.in-Some.is
 
 pub returns-in_default : goal.returns-in_default
 unfolding fault_of
@@ -44,15 +44,15 @@ number_at-x-requires-clause-l_value c =
 
 pub loop-at-smaller : goal.loop-at-smaller
 loop-at-smaller c =
-    let n = next_fits _ _ ((let it : next_of c.args.t.now c.loop-at.at ≡ At c.in-At.p = sym c.step.ensures ∙ c.in-At.is in it)) in omega arith
+    let n = next_fits _ _ ((let it : next_of c.args.t.now c.loop-at.at ≡ Some c.in-Some.p = sym c.step.ensures ∙ c.in-Some.is in it)) in omega arith
 
 pub loop-at-preserved : goal.loop-at-preserved
 loop-at-preserved c =
     let a = c.args in
-    let e = misfit_by_lem _ _ _ c.number_at-x.ensures (next_size _ _ ((let it : next_of c.args.t.now c.loop-at.at ≡ At c.in-At.p = sym c.step.ensures ∙ c.in-At.is in it))) c.misfits.ensures in (
-      (next_fits _ _ ((let it : next_of c.args.t.now c.loop-at.at ≡ At c.in-At.p = sym c.step.ensures ∙ c.in-At.is in it))).1,
-      sym (walk_more _ _ _ _ _ _ c.loop-at-test.true ((let it : next_of c.args.t.now c.loop-at.at ≡ At c.in-At.p = sym c.step.ensures ∙ c.in-At.is in it))) ∙ c.loop-at.invariant.1,
-      rw (c.later-misfit.ensures, e) (carried (misfit_at a.magic a.t.now) a.t.now c.loop-at.at _ c.loop-at.misfit c.loop-at-test.true ((let it : next_of c.args.t.now c.loop-at.at ≡ At c.in-At.p = sym c.step.ensures ∙ c.in-At.is in it))) ∙ c.loop-at.invariant.2,
+    let e = misfit_by_lem _ _ _ c.number_at-x.ensures (next_size _ _ ((let it : next_of c.args.t.now c.loop-at.at ≡ Some c.in-Some.p = sym c.step.ensures ∙ c.in-Some.is in it))) c.misfits.ensures in (
+      (next_fits _ _ ((let it : next_of c.args.t.now c.loop-at.at ≡ Some c.in-Some.p = sym c.step.ensures ∙ c.in-Some.is in it))).1,
+      sym (walk_more _ _ _ _ _ _ c.loop-at-test.true ((let it : next_of c.args.t.now c.loop-at.at ≡ Some c.in-Some.p = sym c.step.ensures ∙ c.in-Some.is in it))) ∙ c.loop-at.invariant.1,
+      rw (c.later-misfit.ensures, e) (carried (misfit_at a.magic a.t.now) a.t.now c.loop-at.at _ c.loop-at.misfit c.loop-at-test.true ((let it : next_of c.args.t.now c.loop-at.at ≡ Some c.in-Some.p = sym c.step.ensures ∙ c.in-Some.is in it))) ∙ c.loop-at.invariant.2,
     )
 
 pub returns-then-misfit-t : goal.returns-then-misfit-t

@@ -42,17 +42,17 @@ pub tail_check-requires : goal.tail_check-requires
 tail_check-requires c =
     let h = within c in omega arith
 
-pub returns-in-Refused : goal.returns-in-Refused
+pub returns-in-Err : goal.returns-in-Err
 unfolding refuse write_check
-returns-in-Refused c =
-    rw (lt-ltb _ _ c.if-h-ge16.false, ← c.body_fits.ensures, c.if-not-body_fits.false, ← (let it : c.fixed_size-size.result ≡ size_of c.args.m.body = c.fixed_size-size.ensures ∙ ap fixed_size c.kind_of.ensures in it), le-ltb _ _ ((let it : c.fixed_size-size.result + length c.args.tail.now ≤ 65535 = omega (arith, size_most c.kind_of.result, c.fixed_size-size.ensures) in it)), told_fault _ _ (sym c.tail_check.ensures ∙ c.in-Refused.is))
+returns-in-Err c =
+    rw (lt-ltb _ _ c.if-h-ge16.false, ← c.body_fits.ensures, c.if-not-body_fits.false, ← (let it : c.fixed_size-size.result ≡ size_of c.args.m.body = c.fixed_size-size.ensures ∙ ap fixed_size c.kind_of.ensures in it), le-ltb _ _ ((let it : c.fixed_size-size.result + length c.args.tail.now ≤ 65535 = omega (arith, size_most c.kind_of.result, c.fixed_size-size.ensures) in it)), told_fault _ _ (sym c.tail_check.ensures ∙ c.in-Err.is))
 
 pub returns-then-room-size : goal.returns-then-room-size
 unfolding refuse write_check
 returns-then-room-size c =
-    rw (lt-ltb _ _ c.if-h-ge16.false, ← c.body_fits.ensures, c.if-not-body_fits.false, ← (let it : c.fixed_size-size.result ≡ size_of c.args.m.body = c.fixed_size-size.ensures ∙ ap fixed_size c.kind_of.ensures in it), le-ltb _ _ ((let it : c.fixed_size-size.result + length c.args.tail.now ≤ 65535 = omega (arith, size_most c.kind_of.result, c.fixed_size-size.ensures) in it)), told_sound _ _ (sym c.tail_check.ensures ∙ c.in-Done.is), lt-ltb _ _ c.if-room-size.true)
+    rw (lt-ltb _ _ c.if-h-ge16.false, ← c.body_fits.ensures, c.if-not-body_fits.false, ← (let it : c.fixed_size-size.result ≡ size_of c.args.m.body = c.fixed_size-size.ensures ∙ ap fixed_size c.kind_of.ensures in it), le-ltb _ _ ((let it : c.fixed_size-size.result + length c.args.tail.now ≤ 65535 = omega (arith, size_most c.kind_of.result, c.fixed_size-size.ensures) in it)), told_sound _ _ (sym c.tail_check.ensures ∙ c.in-Ok.is), lt-ltb _ _ c.if-room-size.true)
 
 pub returns-else-room-size : goal.returns-else-room-size
 unfolding refuse write_check
 returns-else-room-size c =
-    rw (lt-ltb _ _ c.if-h-ge16.false, ← c.body_fits.ensures, c.if-not-body_fits.false, ← (let it : c.fixed_size-size.result ≡ size_of c.args.m.body = c.fixed_size-size.ensures ∙ ap fixed_size c.kind_of.ensures in it), le-ltb _ _ ((let it : c.fixed_size-size.result + length c.args.tail.now ≤ 65535 = omega (arith, size_most c.kind_of.result, c.fixed_size-size.ensures) in it)), told_sound _ _ (sym c.tail_check.ensures ∙ c.in-Done.is), le-ltb _ _ c.if-room-size.false)
+    rw (lt-ltb _ _ c.if-h-ge16.false, ← c.body_fits.ensures, c.if-not-body_fits.false, ← (let it : c.fixed_size-size.result ≡ size_of c.args.m.body = c.fixed_size-size.ensures ∙ ap fixed_size c.kind_of.ensures in it), le-ltb _ _ ((let it : c.fixed_size-size.result + length c.args.tail.now ≤ 65535 = omega (arith, size_most c.kind_of.result, c.fixed_size-size.ensures) in it)), told_sound _ _ (sym c.tail_check.ensures ∙ c.in-Ok.is), le-ltb _ _ c.if-room-size.false)
