@@ -1,7 +1,7 @@
 // What a port keeps: how many of its sixteen records are live, how many are candidates, and the record of a sender.
+use identity::PortIdentity;
 use senders::Record;
 use crate::Parent;
-use rank::PortIdentity;
 use std::io;
 use std::io::Write;
 

@@ -14,7 +14,7 @@ use Rattle.refusal.specs.Limits.{port_count}
 use Rattle.refusal.specs.Choice.{pick, refuse}
 use Rattle.refusal.specs.Refusal.{code_of}
 use Rattle.refusal.specs.declared.Refusal.TheVariants.{Many}
-use Rattle.rank.specs.declared.PortIdentity.{PortIdentity}
+use Rattle.identity.specs.declared.PortIdentity.{PortIdentity}
 use Rattle.rank.specs.Ranked.{is_port}
 use Rattle.senders.specs.Port.{outcome_of}
 use Rattle.senders.specs.History.{Receipt}

@@ -197,7 +197,7 @@ fn number(second: u64) -> u16 {
 pub fn set_intervals(words: &mut [u64; ports::WORDS]) {
     let mut port: u8 = 1;
     while port < 19 {
-        ports::interval::set_interval(words, port, 1);
+        let _ = ports::interval::set_interval(words, port, 1);
         port += 1;
     }
 }

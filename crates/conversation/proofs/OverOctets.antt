@@ -13,7 +13,7 @@ use Rattle.tlv.specs.declared.wr.LinkMessage.{LinkMessage}
 use Rattle.tlv.specs.declared.wr.LinkMessage.TheVariants.{SlavePresent, Lock, Locked, Calibrate, Calibrated, ModeOn}
 use Rattle.tlv.specs.Numbers.{link_number}
 use Rattle.message.specs.Fields.{fixed_size}
-use Rattle.message.specs.declared.fields.PortIdentity.{PortIdentity}
+use Rattle.identity.specs.declared.PortIdentity.{PortIdentity}
 use Rattle.message.specs.declared.fields.Header.{Header}
 use Rattle.writer.specs.Writing.{write_check, write_of}
 use Rattle.wr_tlvs.specs.Built.{link_size, link_octets, signaling}

@@ -3,7 +3,7 @@ use Rattle.std.specs.Prelude.{ℕ, ◌<◌, List, get_or, Option, Some, None, Re
 use Rattle.tlv.specs.declared.wr.LinkMessage.{LinkMessage}
 use Rattle.tlv.specs.Numbers.{link_number}
 use Rattle.contents.specs.Parts.{link_of}
-use Rattle.message.specs.declared.fields.PortIdentity.{PortIdentity}
+use Rattle.identity.specs.declared.PortIdentity.{PortIdentity}
 use Rattle.message.specs.declared.fields.Header.{Header}
 use Rattle.writer.specs.Writing.{buffer_of}
 use Rattle.wr_tlvs.specs.Built.{link_octets, signaling}

@@ -11,7 +11,8 @@ ghost use Rattle.decide.specs.Comparing.{fewer_of, even_of, mirror_of, compare_o
 ghost use Rattle.decide.specs.Deciding.{own_set, set_of, beats_of, by_topology, own_beats, beats_erbest, nearer_of, decision_of, decide_of};
 ghost use Rattle.decide.specs.Leading.{lead_of, by_class_of, by_ebest_of, led_of};
 
-use rank::{Candidate, Grandmaster, PortIdentity, Ranked};
+use identity::PortIdentity;
+use rank::{Candidate, Grandmaster, Ranked};
 use refusal::Refusal;
 
 // What the comparison looks at: the grandmaster that a set leads to, in how many steps, who sent the set, and on which

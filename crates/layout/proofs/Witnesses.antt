@@ -10,7 +10,7 @@ use Rattle.message.specs.declared.fields.DelayResp.{DelayResp}
 use Rattle.message.specs.declared.fields.Announce.{Announce}
 use Rattle.message.specs.declared.fields.Body.{Body}
 use Rattle.message.specs.declared.fields.Body.TheVariants as body
-use Rattle.message.specs.declared.fields.PortIdentity.{PortIdentity}
+use Rattle.identity.specs.declared.PortIdentity.{PortIdentity}
 use Rattle.message.specs.declared.fields.Timestamp.{Timestamp}
 use Rattle.layout.specs.Layout.{identity_octets, stamp_octets, lead_octets, close_octets, announce_octets, message_octets}
 

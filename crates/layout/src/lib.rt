@@ -10,10 +10,8 @@ ghost use Rattle.stores.specs.Stores.{over};
 ghost use Rattle.layout.specs.Layout.{kind_of, control_of, size_of, identity_octets, stamp_octets, lead_octets, close_octets, announce_octets, header_octets, first_octets, more_octets, body_octets};
 ghost use Rattle.layout.specs.Put.{start_octets, offset_octets, grandmaster_octets};
 
-use message::fields::{
-    ANNOUNCE, Announce, Body, DELAY_REQ, DELAY_RESP, FOLLOW_UP, Header, PortIdentity, SIGNALING,
-    SYNC, Timestamp,
-};
+use identity::PortIdentity;
+use message::fields::{ANNOUNCE, Announce, Body, DELAY_REQ, DELAY_RESP, FOLLOW_UP, Header, SIGNALING, SYNC, Timestamp};
 
 // versionPTP.
 const VERSION: u8 = 2;

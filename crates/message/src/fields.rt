@@ -3,12 +3,7 @@ ghost use Rattle.std.specs.Prelude.{◌≡◌, ◌+◌, ◌≤◌, length};
 ghost use Rattle.octets.specs.Be.{be};
 ghost use Rattle.message.specs.Fields.{fixed_size, identity_at, stamp_of, header_of, announce_of};
 
-// A port of a clock, ten octets.
-#[derive(Clone, Copy)]
-pub struct PortIdentity {
-    pub clock: u64,
-    pub port: u16,
-}
+use identity::PortIdentity;
 
 // 48 bits of seconds, and nanoseconds below 10^9.
 #[derive(Clone, Copy)]

@@ -5,7 +5,7 @@ use Rattle.std.specs.Int.{w8, w16, w64}
 use Rattle.std.proofs.Common.{to_z, of_z}
 use Rattle.refusal.specs.Choice.{pick}
 use Rattle.rank.specs.Order.{same}
-use Rattle.message.specs.declared.fields.PortIdentity.{PortIdentity}
+use Rattle.identity.specs.declared.PortIdentity.{PortIdentity}
 use Rattle.message.specs.declared.fields.Timestamp.{Timestamp}
 use Rattle.message.specs.declared.fields.Header.{Header}
 use Rattle.message.specs.declared.fields.Announce.{Announce}

@@ -9,7 +9,8 @@ ghost use Rattle.rank.specs.Order.{same};
 ghost use Rattle.message_words.specs.Words.{pair_words, announce_words, resp_words, body_words, message_words, stamp_of, identity_at, header_of, announce_of, body_of, message_of, is_whole};
 ghost use Rattle.message_words.specs.Fits.{signed8_fits, signed16_fits, signed64_fits, header_fits, stamp_fits, announce_fits};
 
-use message::fields::{Announce, Body, DelayResp, Header, Message, PortIdentity, Timestamp};
+use identity::PortIdentity;
+use message::fields::{Announce, Body, DelayResp, Header, Message, Timestamp};
 
 pub mod answers;
 pub mod reading;

@@ -13,7 +13,7 @@ use Rattle.refusal.specs.Choice.{pick, refuse}
 use Rattle.refusal.specs.declared.Refusal.TheVariants.{Stale}
 use Rattle.refusal.specs.Refusal.{code_of}
 use Rattle.rank.specs.declared.Candidate.{Candidate}
-use Rattle.rank.specs.declared.PortIdentity.{PortIdentity}
+use Rattle.identity.specs.declared.PortIdentity.{PortIdentity}
 use Rattle.rank.specs.Ranked.{is_port}
 use Rattle.senders.specs.declared.Notice as kept
 use Rattle.senders.specs.declared.Record.{Record}

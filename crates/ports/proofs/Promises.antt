@@ -15,7 +15,7 @@ use Rattle.octets.proofs.Laws.{Octets}
 use Rattle.refusal.specs.Choice.{pick, refuse}
 use Rattle.refusal.specs.declared.Refusal.TheVariants.{Full}
 use Rattle.rank.specs.Ranked.{is_port, all_valid}
-use Rattle.rank.specs.declared.PortIdentity.{PortIdentity}
+use Rattle.identity.specs.declared.PortIdentity.{PortIdentity}
 use Rattle.senders.specs.declared.Notice as kept
 use Rattle.senders.specs.Record.{window_of, is_of, is_live}
 use Rattle.senders.specs.Port.{slot_of, tab, port_after, plan_of, candidate_in, candidates_of, gather, New, Live, AllLive, Single}

@@ -2,7 +2,7 @@
 use Rattle.std.specs.Prelude.{ℕ, ◌<◌, ◌≡◌, List, [], ◌∷◌, eqb, Some, Result, Ok, Err}
 use Rattle.refusal.specs.Choice.{pick}
 use Rattle.rank.specs.declared.Candidate.{Candidate}
-use Rattle.rank.specs.declared.PortIdentity.{PortIdentity}
+use Rattle.identity.specs.declared.PortIdentity.{PortIdentity}
 use Rattle.senders.specs.Record.{window_of}
 use Rattle.senders.specs.History.{PortEvent, announced, interval, Receipt, accepted_from, made_by, Steady}
 use Rattle.ports.specs.Intake.{admitted_of}

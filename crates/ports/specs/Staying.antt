@@ -1,7 +1,7 @@
 -- What a sender has to do to keep its place: be live whenever somebody else announces on its port. Its own Announces, and
 -- whatever happens on other ports, are no danger to it.
 use Rattle.std.specs.Prelude.{ℕ, ◌≡◌, List, [], ◌∷◌, true, false, Ok}
-use Rattle.rank.specs.declared.PortIdentity.{PortIdentity}
+use Rattle.identity.specs.declared.PortIdentity.{PortIdentity}
 use Rattle.senders.specs.declared.Notice as kept
 use Rattle.senders.specs.Record.{is_of}
 use Rattle.senders.specs.Port.{slot_of, Live}

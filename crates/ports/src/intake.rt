@@ -9,9 +9,10 @@ ghost use Rattle.slots.specs.Words as held;
 ghost use Rattle.ports.specs.Intake.{grandmaster_of, notice_of, judged_of, admitted_of, plan_at, state_after};
 ghost use Rattle.ports.specs.Words.{all_words};
 
+use identity::PortIdentity;
 use crate::WORDS;
 use message::announce::Heard;
-use rank::{Grandmaster, PortIdentity};
+use rank::Grandmaster;
 use refusal::Refusal;
 use senders::Notice;
 

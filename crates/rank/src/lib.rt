@@ -11,6 +11,7 @@ ghost use Rattle.rank.specs.Order.{identity_of, grade_of, lex, same, earlier_of}
 ghost use Rattle.rank.specs.Ranked.{blank_of, pack, unpack, left_out, sink_of, insert_of, insert_all, holds_of, is_ranked};
 ghost use Rattle.rank.specs.Calls.{refused_of, merge_of, start_of, turns_of, step_of, ranking_of};
 
+use identity::PortIdentity;
 use refusal::Refusal;
 
 // A ranked list is cut after so many.
@@ -18,13 +19,6 @@ const PLACES: usize = 4;
 
 // A run holds at most so many candidates.
 const MOST: usize = 288;
-
-// The ten octets that name a port of a clock.
-#[derive(Clone, Copy)]
-pub struct PortIdentity {
-    pub clock: u64,
-    pub port: u16,
-}
 
 // A grandmaster as it announces itself: its quality, and its clockIdentity.
 #[derive(Clone, Copy)]

@@ -64,7 +64,7 @@ abbrev pub closes : List ℕ → Entry → Bool
 closes ws e = not (fits ws e) && is_open ws
 
 abbrev pub told_by : Bool → Result Bool Refusal
-told_by closed = pick closed (Ok true) (Ok false)
+told_by closed = Ok closed
 
 abbrev pub out_by : Bool → List ℕ → List ℕ → List ℕ
 out_by closed opened out = pick closed (sealed opened) out

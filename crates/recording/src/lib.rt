@@ -7,7 +7,7 @@
 // 17 (a new block past number 4,294,967,295). Then nothing that was lent has changed. What is recorded is not looked into.
 ghost use Rattle.std.specs.Prelude.{◌≡◌, true, ◌⊎◌, ◌≤◌, leb, length};
 ghost use Rattle.block.specs.Layout.{records_at, longest};
-ghost use Rattle.recording.specs.Recording.{entry_of, next_of, end_of, has_place, check_by, record_check, told_of, open_with, words_by, words_with, out_with, recorded_of, open_after, words_after, out_after, is_open, finished, told_by, out_by};
+ghost use Rattle.recording.specs.Recording.{entry_of, next_of, end_of, has_place, check_by, record_check, closes, open_with, words_by, words_with, out_with, recorded_of, open_after, words_after, out_after, is_open, finished, out_by};
 ghost use Rattle.recording.specs.Refusing.{last_number};
 
 use refusal::Refusal;
@@ -69,18 +69,18 @@ fn advance(words: &mut [u64; WORDS], t: u64, n: usize)
 }
 
 // Writes the open block closed, where one is open.
-fn close(opened: &[u8; block::OCTETS], end: u64, out: &mut [u8; block::OCTETS]) -> Result<bool, Refusal>
-    ensures answer { result ≡ told_by (leb records_at end) }
+fn close(opened: &[u8; block::OCTETS], end: u64, out: &mut [u8; block::OCTETS]) -> bool
+    ensures answer { result ≡ leb records_at end }
     ensures octets { out.new ≡ out_by (leb records_at end) opened.now out.old }
 {
-    if !is_open(end) {
-        return Ok(false);
+    if is_open(end) {
+        block::making::seal(opened, out);
+        return true;
     }
-    block::making::seal(opened, out);
-    Ok(true)
+    false
 }
 
-// A message that is not refused goes behind those of the open block, or it closes that and opens the next.
+// A message that is not refused goes behind those of the open block, or it closes that and opens the next. Whether it closed one.
 fn put(
     opened: &mut [u8; block::OCTETS],
     words: &mut [u64; WORDS],
@@ -88,9 +88,9 @@ fn put(
     t: u64,
     message: &[u8],
     out: &mut [u8; block::OCTETS],
-) -> Result<bool, Refusal>
+) -> bool
     requires { record_check words.old (entry_of t port message.now) ≡ Ok tt }
-    ensures answer { result ≡ told_of words.old (entry_of t port message.now) }
+    ensures answer { result ≡ closes words.old (entry_of t port message.now) }
     ensures block { opened.new ≡ open_with opened.old words.old (entry_of t port message.now) }
     ensures words { words.new ≡ words_with words.old (entry_of t port message.now) }
     ensures octets { out.new ≡ out_with opened.old words.old (entry_of t port message.now) out.old }
@@ -100,12 +100,12 @@ fn put(
     advance(words, t, message.len());
     if has_place(end, message.len()) {
         block::making::add(&mut opened[..], end as usize, t, port, message);
-        return Ok(false);
+        return false;
     }
-    let told = close(opened, end, out);
+    let closed = close(opened, end, out);
     block::making::open(opened, next as u32, t);
     block::making::add(&mut opened[..], block::RECORDS, t, port, message);
-    told
+    closed
 }
 
 // What recording a message would answer, and the words as it would leave them; no octet is written.
@@ -114,13 +114,9 @@ pub fn foresee(words: &mut [u64; WORDS], port: u8, t: u64, message: &[u8]) -> Re
     ensures words { words.new ≡ words_after words.old (entry_of t port message.now) }
 {
     let n = message.len();
-    match check(words[0], words[1], words[2], port, t, n) {
-        Err(x) => Err(x),
-        Ok(()) => {
-            advance(words, t, n);
-            Ok(())
-        }
-    }
+    check(words[0], words[1], words[2], port, t, n)?;
+    advance(words, t, n);
+    Ok(())
 }
 
 // Records a message that arrived on a port at `t`, or refuses it. Where that closes a block, `out` has it.
@@ -137,10 +133,8 @@ pub fn record(
     ensures words { words.new ≡ words_after words.old (entry_of t port message.now) }
     ensures octets { out.new ≡ out_after opened.old words.old (entry_of t port message.now) out.old }
 {
-    match check(words[0], words[1], words[2], port, t, message.len()) {
-        Err(x) => Err(x),
-        Ok(()) => put(opened, words, port, t, message, out),
-    }
+    check(words[0], words[1], words[2], port, t, message.len())?;
+    Ok(put(opened, words, port, t, message, out))
 }
 
 // The open block as it would be closed now goes to `out`: whether there is one. Nothing else changes.
@@ -152,7 +146,5 @@ pub fn finish(
     ensures answer { result ≡ is_open words.now }
     ensures octets { out.new ≡ finished opened.now words.now out.old }
 {
-    let end = words[2];
-    close(opened, end, out);
-    is_open(end)
+    close(opened, words[2], out)
 }

@@ -12,7 +12,7 @@ use mir.ValLaws.{to_z-of_z, of_z_fits}
 use Rattle.octets.specs.Be.{be}
 use Rattle.octets.proofs.Laws.{be_octets}
 use Rattle.message.specs.Fields.{type_of, length_of, fixed_size, identity_at, stamp_of, header_of, announce_of, body_of}
-use Rattle.message.specs.declared.fields.PortIdentity.{PortIdentity}
+use Rattle.identity.specs.declared.PortIdentity.{PortIdentity}
 use Rattle.message.specs.declared.fields.Timestamp.{Timestamp}
 use Rattle.message.specs.declared.fields.Header.{Header}
 use Rattle.message.specs.declared.fields.Announce.{Announce}

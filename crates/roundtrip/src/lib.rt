@@ -9,8 +9,9 @@ ghost use Rattle.message.specs.Reading.{by};
 ghost use Rattle.writer.specs.Writing.{write_check, buffer_of};
 ghost use Rattle.wr_tlvs.specs.Built.{link_octets, signaling};
 
+use identity::PortIdentity;
 use refusal::Refusal;
-use message::fields::{Header, Message, PortIdentity};
+use message::fields::{Header, Message};
 use tlv::wr::LinkMessage;
 
 // A message written and read again: it comes back as it was, or with the number that refused to write it.

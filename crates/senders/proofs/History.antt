@@ -4,7 +4,7 @@ use Rattle.std.proofs.Common.{◌≡◌, ℕ, zero, suc, ◌<◌, ◌≤◌, Boo
 use borrow.Author.Tests.{eqb-false}
 use Rattle.refusal.specs.Choice.{pick}
 use Rattle.rank.specs.declared.Candidate.{Candidate}
-use Rattle.rank.specs.declared.PortIdentity.{PortIdentity}
+use Rattle.identity.specs.declared.PortIdentity.{PortIdentity}
 use Rattle.rank.proofs.Best.{cases}
 use Rattle.rank.proofs.Merging.{both}
 use Rattle.senders.specs.declared.Notice.{Notice}

@@ -1,7 +1,7 @@
 -- Whose a record is and whose an Announce is: senders are told apart by clock and port.
 use Rattle.std.proofs.Common.{◌≡◌, true, false, not, ◌&&◌, eqb, ap, eq-eqb, eqb-true}
 use borrow.Author.Tests.{not-true}
-use Rattle.rank.specs.declared.PortIdentity.{PortIdentity}
+use Rattle.identity.specs.declared.PortIdentity.{PortIdentity}
 use Rattle.rank.proofs.Merging.{both}
 use Rattle.senders.specs.declared.Notice.{Notice}
 use Rattle.senders.specs.declared.Record.{Record}

@@ -7,7 +7,7 @@ use Rattle.refusal.specs.Choice.{pick}
 use Rattle.refusal.specs.declared.Refusal.{Refusal}
 use Rattle.refusal.specs.declared.Refusal.TheVariants.{Backward, Stale, Full}
 use Rattle.rank.specs.declared.Candidate.{Candidate}
-use Rattle.rank.specs.declared.PortIdentity.{PortIdentity}
+use Rattle.identity.specs.declared.PortIdentity.{PortIdentity}
 use Rattle.rank.proofs.Best.{cases}
 use Rattle.rank.proofs.Merging.{both}
 use Rattle.senders.specs.declared.Notice.{Notice}

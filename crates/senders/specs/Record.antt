@@ -1,7 +1,7 @@
 -- One sender's record (01, "Sender records").
 use Rattle.std.specs.Prelude.{ℕ, ◌+◌, ◌-◌, ◌*◌, ◌%◌, ◌^◌, Bool, not, ◌&&◌, ◌==◌, nat_le}
 use Rattle.rank.specs.declared.Candidate.{Candidate}
-use Rattle.rank.specs.declared.PortIdentity.{PortIdentity}
+use Rattle.identity.specs.declared.PortIdentity.{PortIdentity}
 use Rattle.senders.specs.declared.Notice.{Notice}
 use Rattle.senders.specs.declared.Record.{Record}
 

@@ -1,6 +1,6 @@
 -- "Given exactly when" of 11, 12 and 13 (01, "Numbers that refuse"), for whatever records a port holds.
 use Rattle.std.specs.Prelude.{◌≡◌, ℕ, ◌<◌, ◌≤◌, true, false}
-use Rattle.rank.specs.declared.PortIdentity.{PortIdentity}
+use Rattle.identity.specs.declared.PortIdentity.{PortIdentity}
 use Rattle.senders.specs.declared.Notice.{Notice}
 use Rattle.senders.specs.Record.{is_of, is_newer}
 use Rattle.senders.specs.Port.{Port, slot_of, New, Live, AllLive}

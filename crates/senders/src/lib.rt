@@ -11,7 +11,8 @@ ghost use Rattle.std.specs.Prelude.{◌≡◌, ◌-◌};
 ghost use Rattle.senders.specs.Record.{window_of, is_of, is_live, is_free, is_distant, is_qualified, is_newer, fresh_of, next_of, candidate_of};
 ghost use Rattle.senders.specs.Port.{known_of, new_of};
 
-use rank::{Candidate, Grandmaster, PortIdentity};
+use identity::PortIdentity;
+use rank::{Candidate, Grandmaster};
 use refusal::Refusal;
 
 // A port keeps so many records.

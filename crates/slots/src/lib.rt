@@ -11,7 +11,8 @@ ghost use Rattle.senders.specs.Port.{first, plan_of, asked_of, candidate_in, bes
 ghost use Rattle.slots.specs.Words.{of_six, six_of, id_word, grade_word, slot_at, slots_of, port_of, put_slot, words_after, sought_in, seen_in, before_in, later_in, outdoes_in, port_words};
 ghost use Rattle.slots.specs.Places.{place_among, place_in, above_in};
 
-use rank::{Candidate, Grandmaster, PortIdentity};
+use identity::PortIdentity;
+use rank::{Candidate, Grandmaster};
 use refusal::Refusal;
 use senders::{Notice, Record, SLOTS};
 

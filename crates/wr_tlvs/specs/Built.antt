@@ -6,7 +6,7 @@ use Rattle.tlv.specs.Numbers.{ANN-SUFIX}
 pub use Rattle.tlv.specs.Numbers.{link_number}
 use Rattle.tlv.specs.declared.wr.LinkMessage.{LinkMessage}
 use Rattle.tlv.specs.declared.wr.LinkMessage.TheVariants.{SlavePresent, Lock, Locked, Calibrate, Calibrated, ModeOn}
-use Rattle.message.specs.declared.fields.PortIdentity.{PortIdentity}
+use Rattle.identity.specs.declared.PortIdentity.{PortIdentity}
 use Rattle.message.specs.declared.fields.Header.{Header}
 use Rattle.message.specs.declared.fields.Body.TheVariants as body
 use Rattle.message.specs.declared.fields.Message.{Message}

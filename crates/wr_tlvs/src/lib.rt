@@ -9,8 +9,9 @@ ghost use Rattle.octets.specs.Be.{octets_of};
 ghost use Rattle.writer.specs.Writing.{write_of, buffer_of};
 ghost use Rattle.wr_tlvs.specs.Built.{wr_octets, zeros, suffix_tlv, link_tlv, link_octets, signaling};
 
+use identity::PortIdentity;
 use refusal::Refusal;
-use message::fields::{Body, Header, Message, PortIdentity};
+use message::fields::{Body, Header, Message};
 use tlv::form::{ANN_SUFIX, CALIBRATE, CALIBRATED, LOCK, LOCKED, MODE_ON, SLAVE_PRESENT};
 use tlv::wr::LinkMessage;
 

@@ -8,7 +8,7 @@ use Rattle.stores.specs.Stores.{over}
 use Rattle.stores.proofs.Buffer.{put_two}
 use Rattle.message.specs.Fields.{fixed_size}
 use Rattle.message.specs.declared.fields.Timestamp.{Timestamp}
-use Rattle.message.specs.declared.fields.PortIdentity.{PortIdentity}
+use Rattle.identity.specs.declared.PortIdentity.{PortIdentity}
 use Rattle.message.specs.declared.fields.Announce.{Announce}
 use Rattle.message.specs.declared.fields.Body.{Body}
 use Rattle.layout.specs.Layout.{size_of, stamp_octets, identity_octets, announce_octets, first_octets, more_octets, body_octets}
