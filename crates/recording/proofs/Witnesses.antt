@@ -1,5 +1,5 @@
 -- Recording at its edges, by 02's numbers, (iv). The words are the next block's number, the last recorded time, and where the next record goes.
-use Rattle.std.specs.Prelude.{Ok, Err}
+use Rattle.std.specs.Prelude.{true, false, Ok, Err}
 use Prim.Native.Nat.{ℕ}
 use mathlib.Core.Path.{◌≡◌, refl}
 use mathlib.Core.List.{List, [], ◌∷◌}
