@@ -1,5 +1,5 @@
 -- What a call leaves: refused, every word of every port; ignored, too, in words that grew from zeros.
-use Rattle.std.specs.Prelude.{Ok, Err}
+use Rattle.std.specs.Prelude.{Result, Ok, Err}
 use Prim.Native.Nat.{ℕ}
 use mathlib.Core.Path.{◌≡◌, refl, ap, sym, ◌∙◌}
 use mathlib.Core.Bool.{Bool, true, false, not}
@@ -23,7 +23,7 @@ use Rattle.links.specs.Words.{word_of, IsPort, base, link_at, settings_at, setti
 -- "State, output buffers and input stay as they were.": all 72 words, where settings or an event are refused
 
 set_by_lem : (ws vs : List ℕ) (x : Refusal) (other large : Bool) →
-    refuse other (Err Port) (refuse large (Err Field) (Ok tt)) ≡ Err x → refuse other ws (refuse large ws vs) ≡ ws
+    ◌≡◌ {A = Result (Unit {0}) Refusal} (refuse other (Err Port) (refuse large (Err Field) (Ok tt))) (Err x) → refuse other ws (refuse large ws vs) ≡ ws
 unfolding refuse
 set_by_lem ws vs x true large e = refl
 set_by_lem ws vs x false true e = refl
