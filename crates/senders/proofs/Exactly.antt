@@ -26,14 +26,14 @@ module _ (p : Port) (t : ℕ) (a : Notice) (size : length p.slots ≡ 16) where
       rw (le-ltb t p.last s.later, found s.known, lt-ltb s.known.at 16 s.known.inside, s.live, s.old)
 
   -- the refusals of a new sender are others
-  none_stale : (b : Bool) (j : ℕ) → refuse (not b) (Err Full) (Ok (j, fresh_of t a)) ≡ Err Stale → ⊥
+  none_stale : (b : Bool) (j : ℕ) → refuse {A = Result (ℕ × Record) Refusal} (not b) (Err Full) (Ok (j, fresh_of t a)) ≡ Err Stale → ⊥
   unfolding refuse
   none_stale true j e = let z : ◌≡◌ {A = ℕ} 0 1 = cc in omega arith
   none_stale false j e = let z : ◌≡◌ {A = ℕ} 0 1 = cc in omega arith
 
   only_by : (i : ℕ) → first (is_of a.sender) p.slots ≡ i → (b c d e : Bool) → ltb t p.last ≡ b → ltb i 16 ≡ c
       → is_live (window_of p.e) t (slot_of p i) ≡ d → is_newer a.sequence (slot_of p i).notice.sequence ≡ e
-      → refuse b (Err Backward)
+      → refuse {A = Result (ℕ × Record) Refusal} b (Err Backward)
       (pick c (pick d (refuse (not e) (Err Stale) (Ok (i, next_of (slot_of p i) t a))) (Ok (i, fresh_of t a))) (new_of t a (first (is_free (window_of p.e) t) p.slots)))
       ≡ Err Stale
       → WhenStale p t a

@@ -1,5 +1,5 @@
 -- A port's records and candidates are those of its history.
-use Rattle.std.specs.Prelude.{Some, None, Result, Ok, Err}
+use Rattle.std.specs.Prelude.{Option, Some, None, Result, Ok, Err}
 use Rattle.std.proofs.Common.{◌≡◌, ℕ, zero, suc, ◌<◌, ◌≤◌, Bool, true, false, ◌&&◌, eqb, ltb, List, [], ◌∷◌, length, get_or, sym, refl, ap, ◌∙◌, subst, arith, get_or-set_other, get_or-set_same, ltb-false, ne_eqb, eqb-true, leb-true}
 use borrow.Author.Tests.{eqb-false}
 use Rattle.refusal.specs.Choice.{pick}
@@ -207,7 +207,7 @@ module _ (hs : List PortEvent) (port i t : ℕ) (h : i < 16) where
       heard_twice_lem r (sym e ∙ record_is hs r.notice.sender i h (ap (is_of r.notice.sender) e ∙ own)) q
 
   only_by : (c : Candidate) (r : Record) → slot_of (made_by hs) i ≡ r → (b : Bool) → is_qualified w t r ≡ b
-      → pick b (Ok (Some (candidate_of port r))) (Ok None) ≡ Ok (Some c) → candidate_by port w t (accepted_from c.sender hs) ≡ Ok (Some c)
+      → pick {A = Result (Option Candidate) Refusal} b (Ok (Some (candidate_of port r))) (Ok None) ≡ Ok (Some c) → candidate_by port w t (accepted_from c.sender hs) ≡ Ok (Some c)
   only_by c r e false q f = absurd (let z : ◌≡◌ {A = ℕ} 0 1 = cc in omega arith)
   only_by c r e true q f =
       let same : candidate_of port r ≡ c = cc in

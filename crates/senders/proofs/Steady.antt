@@ -40,8 +40,9 @@ module _ (p : Port) (t : ℕ) (a : Notice) (size : length p.slots ≡ 16) (k : �
 
   the_put : (i : ℕ) (y : Record) → p.last ≤ t → i < 16 → is_of a.sender y ≡ true → ◌≡◌ {A = Result (ℕ × Record) Refusal} (Ok (i, y)) (Ok (k, z)) → Puts p t a k z
   the_put i y l h o e =
-      let f : i ≡ k = cc in
-      let g : y ≡ z = cc in
+      let pair : ◌≡◌ {A = ℕ × Record} (i, y) (k, z) = cc in
+      let f : i ≡ k = ap (λ (q : ℕ × Record). q.0) pair in
+      let g : y ≡ z = ap (λ (q : ℕ × Record). q.1) pair in
       record { inside = subst (λ (j : ℕ). j < 16) f h; its = subst (λ (r : Record). is_of a.sender r ≡ true) g o; later = l }
 
   puts : plan_of p t a ≡ Ok (k, z) → Puts p t a k z
