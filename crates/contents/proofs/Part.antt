@@ -43,7 +43,7 @@ not_refused : (o : Result (Unit {0}) Refusal) (x : Result (Option ℕ) Refusal) 
 not_refused (Ok tt) x e = (refl, e)
 not_refused (Err r) x e = absurd (let z : ◌≡◌ {A = ℕ} 0 1 = cc in omega arith)
 
-found_by : (b : Bool) (n : ℕ) {at : ℕ} → pick b (Ok (Some n)) (Ok None) ≡ Ok (Some at) → (b ≡ true) × (n ≡ at)
+found_by : (b : Bool) (n : ℕ) {at : ℕ} → pick {A = Result (Option ℕ) Refusal} b (Ok (Some n)) (Ok None) ≡ Ok (Some at) → (b ≡ true) × (n ≡ at)
 found_by true n e = (refl, cc)
 found_by false n e = absurd (let z : ◌≡◌ {A = ℕ} 0 1 = cc in omega arith)
 
@@ -51,7 +51,7 @@ absent_done : (o : Result (Unit {0}) Refusal) (x : Result (Option ℕ) Refusal) 
 absent_done (Ok tt) x e = (refl, e)
 absent_done (Err r) x e = absurd (let z : ◌≡◌ {A = ℕ} 0 1 = cc in omega arith)
 
-absent_by : (b : Bool) (n : ℕ) → pick b (Ok (Some n)) (Ok None) ≡ Ok None → b ≡ false
+absent_by : (b : Bool) (n : ℕ) → pick {A = Result (Option ℕ) Refusal} b (Ok (Some n)) (Ok None) ≡ Ok None → b ≡ false
 absent_by true n e = absurd (let z : ◌≡◌ {A = ℕ} 0 1 = cc in omega arith)
 absent_by false n e = refl
 

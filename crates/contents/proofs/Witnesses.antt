@@ -6,7 +6,7 @@ use mathlib.Core.List.{List, [], ◌∷◌, ◌++◌, map}
 use lib.ListN.{drop}
 use Rattle.octets.specs.Be.{be}
 use Rattle.refusal.specs.Choice.{refuse}
-use Rattle.refusal.specs.declared.Refusal.TheVariants.{Tlv, WrBad}
+use Rattle.refusal.specs.declared.Refusal.TheVariants as refusal
 use Rattle.tlv.specs.Walk.{next_of, walk_by, walk}
 use Rattle.tlv.specs.Form.{HasForm, data_octets, numbered, misfit_at, suffix_at, link_at}
 use Rattle.tlv.specs.Faults.{fault_of}
@@ -16,6 +16,7 @@ use Rattle.message.specs.Fields.{fixed_size}
 use Rattle.message.specs.Reading.{check_of}
 use Rattle.contents.specs.Parts.{tail_in, data_in, lookup_of, suffix_of, link_of}
 use Rattle.contents.specs.Answers.{walked_code}
+use Rattle.contents.specs.declared.tlvs.Tlv.{Tlv}
 use Rattle.contents.specs.Tlvs.{tlvs_of, standing, next_in, data_from}
 use Rattle.message.proofs.Witnesses.{plain, suffix_tlv, wrong_tlv, signaling, six}
 use Rattle.refusal.specs.declared.Refusal.{Refusal}
@@ -84,11 +85,11 @@ unfolding next_in standing check_of refuse fixed_size be fault_of walk walk_by n
 walks = refl
 
 -- inside a TLV stands none: its data 0x5678 are no length
-pub walk_astray : next_in 0xABCD 66 three ≡ Err (Tlv 66)
+pub walk_astray : next_in 0xABCD 66 three ≡ Err (refusal.Tlv 66)
 unfolding next_in standing refuse fixed_size be next_of
 walk_astray = refl
 
-pub walk_refused : next_in 0xABCD 0 (plain 0x0 2 64 40 (six ++ wrong_tlv)) ≡ Err (WrBad 50)
+pub walk_refused : next_in 0xABCD 0 (plain 0x0 2 64 40 (six ++ wrong_tlv)) ≡ Err (refusal.WrBad 50)
 unfolding next_in standing check_of refuse fixed_size be fault_of walk walk_by next_of misfit_at numbered HasForm data_octets
 walk_refused = refl
 

@@ -9,7 +9,7 @@ use Rattle.contents.proofs.tlvs.next_data.Goals as goal
 
 pub slice_bounds-result-end : goal.slice_bounds-result-end
 slice_bounds-result-end c =
-    let l = (let it : let a = c.args in end_of c.in-Ok-Some.x ≤ length a.s.now = let e = sym c.next_tlv.ensures ∙ c.in-Ok-Some.is in
+    let l = (let it : let a = c.args in end_of c.in-Ok-Some.x ≤ length a.s.now = let e = rw c.in-Ok-Some.field-0-is at (sym c.next_tlv.ensures ∙ c.in-Ok-Some.is) in
     let i = next_inside _ _ _ _ e in
     omega (arith, i.inside, i.lent) in it) in omega arith
 
@@ -18,12 +18,12 @@ unfolding data_from
 returns-in-Ok-Some c =
     let v = c.in-Ok-Some.x in
     let n : v.place + 4 + v.length - (v.place + 4) ≡ v.length = omega arith in
-    rw (← c.next_tlv.ensures, c.in-Ok-Some.is, n)
+    rw (← c.next_tlv.ensures, c.in-Ok-Some.is, c.in-Ok-Some.field-0-is, n)
 
 pub returns-in-Ok-None : goal.returns-in-Ok-None
 unfolding data_from
 returns-in-Ok-None c =
-    rw (← c.next_tlv.ensures, c.in-Ok-None.is)
+    rw (← c.next_tlv.ensures, c.in-Ok-None.is, c.in-Ok-None.field-0-is)
 
 pub returns-in-Err : goal.returns-in-Err
 unfolding data_from
