@@ -73,7 +73,7 @@ module _ (p : Port) (t : ℕ) (x : Result (Option Candidate) Refusal) where
 module _ (port : ℕ) (p : Port) (i t : ℕ) (w : ℕ) (r : Record) (ew : w ≡ window_of p.e) (er : r ≡ slot_of p i) where
   pub candidate_yes : (b : Bool) (c : Candidate) → b ≡ is_qualified w t r → b ≡ true → c ≡ candidate_of port r → Ok (Some c) ≡ candidate_in port p i t
   unfolding candidate_in
-  candidate_yes b c eb h ec = rw (← er, ← ew, ← eb, h) (ap Ok (Some ec))
+  candidate_yes b c eb h ec = rw (← er, ← ew, ← eb, h) (ap (λ (x : Candidate). Ok (Some x)) ec)
 
   pub candidate_no : (b : Bool) → b ≡ is_qualified w t r → b ≡ false → Ok None ≡ candidate_in port p i t
   unfolding candidate_in
@@ -170,7 +170,7 @@ module _ (port : ℕ) (ws : List ℕ) (w t b : ℕ) (ew : w ≡ window_of (port_
   its = rw (← ew) is
 
   pub best_yes : (r : Record) (c : Candidate) → (b ≡ 0 → ⊥) → r ≡ record_of (block ws b 6) → c ≡ candidate_of port r → Ok (Some c) ≡ best_of port (port_of ws) t
-  best_yes r c h er ec = ap Ok (Some (ec ∙ ap (candidate_of port) er)) ∙ rw (ne_eqb _ _ h) at its
+  best_yes r c h er ec = ap (λ (x : Candidate). Ok (Some x)) (ec ∙ ap (candidate_of port) er) ∙ rw (ne_eqb _ _ h) at its
 
   pub best_no : b ≡ 0 → Ok None ≡ best_of port (port_of ws) t
   best_no h = rw (eq-eqb _ _ h) at its

@@ -1,6 +1,6 @@
 -- A plan puts its record into one of the sixteen slots, and the record is of the notice that was planned for.
 use Rattle.std.specs.Prelude.{Result, Ok, Err}
-use mathlib.Core.Path.{◌≡◌, refl}
+use mathlib.Core.Path.{◌≡◌, refl, ap}
 use mathlib.Core.List.{List}
 use Prim.Native.Nat.{ℕ, ◌<◌}
 use native.Mathlib.Omega.{arith}
@@ -16,10 +16,16 @@ no_put : {G : Type 0} {x : Refusal} {k : ℕ} {r : Record} → ◌≡◌ {A = Re
 no_put {G} {x} {k} {r} e = absurd (let d : ◌≡◌ {A = ℕ} 0 1 = cc in omega arith)
 
 inside : {k i : ℕ} {r s : Record} → i < 16 → ◌≡◌ {A = Result (ℕ × Record) Refusal} (Ok (i, s)) (Ok (k, r)) → k < 16
-inside {k} {i} {r} {s} h e = let d : i ≡ k = cc in omega arith
+inside {k} {i} {r} {s} h e =
+    let pair : ◌≡◌ {A = ℕ × Record} (i, s) (k, r) = cc in
+    let d : i ≡ k = ap (λ (q : ℕ × Record). q.0) pair in
+    omega arith
 
 of_notice : {a : Notice} {k i : ℕ} {r s : Record} → s.notice ≡ a → ◌≡◌ {A = Result (ℕ × Record) Refusal} (Ok (i, s)) (Ok (k, r)) → r.notice ≡ a
-of_notice {a} {k} {i} {r} {s} h e = let d : s ≡ r = cc in rw d at h
+of_notice {a} {k} {i} {r} {s} h e =
+    let pair : ◌≡◌ {A = ℕ × Record} (i, s) (k, r) = cc in
+    let d : s ≡ r = ap (λ (q : ℕ × Record). q.1) pair in
+    rw d at h
 
 pub plan_place : (ws : List ℕ) (t : ℕ) (a : Notice) (k : ℕ) (r : Record) → plan_of (port_of ws) t a ≡ Ok (k, r) → k < 16
 plan_place ws t a k r =
