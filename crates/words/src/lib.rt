@@ -6,7 +6,7 @@
 ghost use Rattle.std.specs.Prelude.{◌≡◌};
 ghost use Rattle.std.specs.Int.{w64};
 ghost use Rattle.std.proofs.Common.{of_z};
-ghost use Rattle.words.specs.Words.{port_of};
+ghost use Rattle.words.specs.Words.{port_of, returned, lent};
 
 // A signed octet as a word.
 pub fn word_of_i8(octet: i8) -> u64
@@ -30,5 +30,19 @@ pub fn port_of(w: u64) -> u8
         w as u8
     } else {
         0
+    }
+}
+
+// Writes a result into the words that a host lends for it, and returns 0; or leaves them as they are, and returns the code that refuses.
+pub fn put<const N: usize>(out: &mut [u64; N], x: Result<[u64; N], u64>) -> u64
+    ensures answer { result ≡ returned x.entry }
+    ensures words { out.new ≡ lent x.entry out.old }
+{
+    match x {
+        Ok(words) => {
+            *out = words;
+            0
+        }
+        Err(code) => code,
     }
 }
