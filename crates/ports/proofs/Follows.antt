@@ -35,7 +35,8 @@ pub refusal_leaves : (ws : List ℕ) (port t : ℕ) (q : Result (ℕ × Record) 
 refusal_leaves ws port t (Err y) x e = refl
 refusal_leaves ws port t (Ok (i, r)) x e = absurd (let z : ◌≡◌ {A = ℕ} 0 1 = cc in omega arith)
 
-set_leaves_by : (ws : List ℕ) (port e : ℕ) (x : Refusal) (a b : Bool) → refuse (not a) (Err Port) (refuse (not b) (Err Field) (Ok tt)) ≡ Err x
+set_leaves_by : (ws : List ℕ) (port e : ℕ) (x : Refusal) (a b : Bool)
+    → refuse {A = Result (Unit {0}) Refusal} (not a) (Err Port) (refuse (not b) (Err Field) (Ok tt)) ≡ Err x
     → pick (a && b) (with ws port (set (own ws port) 1 e)) ws ≡ ws
 unfolding refuse
 set_leaves_by ws port e x true true h = absurd (let z : ◌≡◌ {A = ℕ} 0 1 = cc in omega arith)

@@ -9,6 +9,7 @@ use lib.Dec.{eqb}
 use lib.ListN.{get_or, take, drop}
 use lib.Seq.{take-take, drop-drop, get_or-drop}
 use borrow.Author.Tests.{eqb-false, ne_eqb}
+use Rattle.rank.specs.declared.Candidate.{Candidate}
 use Rattle.rank.specs.Order.{earlier_of}
 use Rattle.rank.specs.Ranked.{is_port}
 use Rattle.rank.proofs.Best.{cases}
@@ -58,7 +59,7 @@ module _ (port : ℕ) (is : is_port port ≡ true) where
         (λ e.
         let n = eqb-false i 0 e in
         let z : eqb (b + i) 0 ≡ false = ne_eqb (b + i) 0 (λ q. n (omega arith)) in
-        rw (e, z) (ap Ok (Some (ap (λ (k : ℕ). candidate_of k (record_of (block ws (b + i) 6))) (port_back i h) ∙ ap (λ (l : List ℕ). candidate_of port (record_of l)) (sym (own_block ws port i h))))))
+        rw (e, z) (ap (λ (c : Candidate). Ok (Some c)) (ap (λ (k : ℕ). candidate_of k (record_of (block ws (b + i) 6))) (port_back i h) ∙ ap (λ (l : List ℕ). candidate_of port (record_of l)) (sym (own_block ws port i h)))))
 
     -- THE CANDIDATE AT A PORT'S PLACE IS THE PORT'S BEST
     pub best_at : Words64 ws → found_at ws (place_on ws port t) ≡ best_of port (port_at ws port) t

@@ -1,5 +1,5 @@
 -- Asking (01, "Sender records": "Asking for candidates at T changes nothing and is refused with 8, then 11.").
-use Rattle.std.specs.Prelude.{ℕ, List, not, Option, Result, Ok, Err}
+use Rattle.std.specs.Prelude.{ℕ, ℤ, List, not, Option, Result, Ok, Err}
 use Rattle.refusal.specs.Choice.{refuse}
 use Rattle.refusal.specs.declared.Refusal.TheVariants.{Port}
 use Rattle.rank.specs.Ranked.{is_port}
