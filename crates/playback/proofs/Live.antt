@@ -109,7 +109,7 @@ module _ (by : Settings) (ws s : List ℕ) where
   refused_trace x e = trace_by_lem x (is_trace s) _ (replayed_from by ws s) e
 
   module _ (rs : List ℕ) where
-    block_by : (x : Refusal) (b : Bool) (us qs : List ℕ) → refuse (not b) (Err Block) (Ok tt) ≡ Err x → (pick b us ws ≡ ws) × (pick b qs rs ≡ rs)
+    block_by : (x : Refusal) (b : Bool) (us qs : List ℕ) → refuse {A = Result (Unit {0}) Refusal} (not b) (Err Block) (Ok tt) ≡ Err x → (pick b us ws ≡ ws) × (pick b qs rs ≡ rs)
     unfolding refuse
     block_by x true us qs e = absurd (let z : ◌≡◌ {A = ℕ} 0 1 = cc in omega arith)
     block_by x false us qs e = (refl, refl)

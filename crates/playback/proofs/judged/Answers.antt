@@ -20,7 +20,7 @@ pub returns-in_default : goal.returns-in_default
 returns-in_default c =
     let s = c.args.trace.now in
     let b = c.part-s.result.now in
-    let v : accepts c.loop-at.read b ≡ false = ap is_sound (sym c.judge-v.ensures) ∙ unsound c.judge-v.result c.in_default.not-Sound in
+    let v : accepts c.loop-at.read b ≡ false = ap is_sound (sym c.judge-v.ensures) ∙ unsound c.judge-v.result c.in_default.not-Ok in
     sym (look_stop c.loop-at.read b (blocks_in (drop (c.loop-at.at + length b) s)) v)
     ∙ sym (ap (replay_by c.loop-at.read) (blocks_more s c.loop-at.at c.loop-at-test.true b c.part-s.ensures))
     ∙ c.loop-at.invariant.1

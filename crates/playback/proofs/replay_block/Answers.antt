@@ -7,7 +7,7 @@ use Rattle.playback.proofs.replay_block.Goals as goal
 pub returns-in_default : goal.returns-in_default
 returns-in_default c =
     let a = c.args in
-    let p = block_refused a.set a.reader.now a.words.now a.s.now (ap is_sound (sym c.judge-v.ensures) ∙ unsound c.judge-v.result c.in_default.not-Sound) in
+    let p = block_refused a.set a.reader.now a.words.now a.s.now (ap is_sound (sym c.judge-v.ensures) ∙ unsound c.judge-v.result c.in_default.not-Ok) in
     record { answer = p.0; words = p.1.0; reader = p.1.1 }
 
 pub take_all-requires : goal.take_all-requires
