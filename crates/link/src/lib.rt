@@ -6,7 +6,7 @@
 // start is due (the PTP states of 001, 6.7.1), how long a timeout lasts, what a received CALIBRATE or CALIBRATED carries, and
 // the header and target of the Signaling that a message goes out in are the host's.
 ghost use Rattle.std.specs.Prelude.{◌≡◌};
-ghost use Rattle.link.specs.Machine.{is_idle, is_calibration, CanSlave, CanMaster, on_start, on_slave_present, slave_waits, master_waits, waits_of, on_message, on_done, on_timeout, asked, calibrate_of, calibrated_of, message_of, mode_on_of, fresh, ignored, in_state, entered, link_on, resent, left, taken, stepped};
+ghost use Rattle.link.specs.Machine.{CanSlave, CanMaster, on_start, on_slave_present, slave_waits, master_waits, waits_of, on_message, on_done, on_timeout, asked, calibrate_of, calibrated_of, message_of, mode_on_of, fresh, ignored, in_state, entered, link_on, resent, left, taken, stepped};
 
 use tlv::form::{CALIBRATE, CALIBRATED, LOCK, LOCKED, MODE_ON, SLAVE_PRESENT};
 use tlv::wr::LinkMessage;
@@ -19,7 +19,7 @@ pub enum Role {
 }
 
 // The states of 003, Table 5. Link on is no state to stay in: the state is IDLE at once.
-#[derive(Clone, Copy)]
+#[derive(Clone, Copy, PartialEq, Eq)]
 pub enum State {
     Idle,
     Present,
@@ -96,59 +96,26 @@ pub enum Waits {
     Hardware(Move),
 }
 
-// Whether the state is IDLE, where a start is taken and a timeout is not.
-fn is_idle(state: State) -> bool
-    ensures { result ≡ is_idle state }
-{
-    match state {
-        State::Idle => true,
-        State::Present => false,
-        State::MLock => false,
-        State::SLock => false,
-        State::Locked => false,
-        State::Calibration => false,
-        State::Calibrated => false,
-        State::RespCalibReq => false,
-    }
-}
-
-// Whether the state is CALIBRATION, which a port that needs none passes through.
-fn is_calibration(state: State) -> bool
-    ensures { result ≡ is_calibration state }
-{
-    match state {
-        State::Idle => false,
-        State::Present => false,
-        State::MLock => false,
-        State::SLock => false,
-        State::Locked => false,
-        State::Calibration => true,
-        State::Calibrated => false,
-        State::RespCalibReq => false,
-    }
-}
-
 // Config 2 or 3.
 fn can_slave(config: u8) -> bool
     ensures { result ≡ CanSlave config }
 {
-    (config == 2) | (config == 3)
+    matches!(config, 2 | 3)
 }
 
 // Config 1 or 3.
 fn can_master(config: u8) -> bool
     ensures { result ≡ CanMaster config }
 {
-    (config == 1) | (config == 3)
+    matches!(config, 1 | 3)
 }
 
 // A slave starts from IDLE, by the two configs, while not both modes are on.
+#[tactic(auto, unfolding(crate::specs::Machine::on_start))]
 fn on_start(config: u8, l: Link, parent: u8, on: bool) -> Move
     ensures { result ≡ on_start config l parent on }
 {
-    let state = l.state;
-    let mode = l.mode;
-    if is_idle(state) & can_slave(config) & can_master(parent) & !(mode & on) {
+    if l.state == State::Idle && can_slave(config) && can_master(parent) && !(l.mode && on) {
         Move::Enter(Role::Slave, State::Present)
     } else {
         Move::Ignore
@@ -156,10 +123,11 @@ fn on_start(config: u8, l: Link, parent: u8, on: bool) -> Move
 }
 
 // A master starts on SLAVE_PRESENT.
+#[tactic(auto, unfolding(crate::specs::Machine::on_slave_present))]
 fn on_slave_present(config: u8, number: u16) -> Move
     ensures { result ≡ on_slave_present config number }
 {
-    if can_master(config) & (number == SLAVE_PRESENT) {
+    if can_master(config) && number == SLAVE_PRESENT {
         Move::Enter(Role::Master, State::MLock)
     } else {
         Move::Ignore
@@ -180,8 +148,7 @@ fn slave_waits(state: State) -> Waits
         ),
         State::Calibration => Waits::Hardware(Move::Enter(Role::Slave, State::Calibrated)),
         State::Calibrated => Waits::Message(MODE_ON, Move::LinkOn),
-        State::Idle => Waits::Nothing,
-        State::MLock => Waits::Nothing,
+        State::Idle | State::MLock => Waits::Nothing,
     }
 }
 
@@ -197,10 +164,7 @@ fn master_waits(state: State) -> Waits
             Move::Enter(Role::Master, State::RespCalibReq),
         ),
         State::RespCalibReq => Waits::Message(CALIBRATED, Move::LinkOn),
-        State::Idle => Waits::Nothing,
-        State::Present => Waits::Nothing,
-        State::SLock => Waits::Nothing,
-        State::Locked => Waits::Nothing,
+        State::Idle | State::Present | State::SLock | State::Locked => Waits::Nothing,
     }
 }
 
@@ -219,13 +183,8 @@ fn on_message(waits: Waits, number: u16) -> Move
     ensures { result ≡ on_message waits number }
 {
     match waits {
-        Waits::Message(awaited, then) => if number == awaited {
-            then
-        } else {
-            Move::Ignore
-        },
-        Waits::Hardware(_) => Move::Ignore,
-        Waits::Nothing => Move::Ignore,
+        Waits::Message(awaited, then) if number == awaited => then,
+        _ => Move::Ignore,
     }
 }
 
@@ -235,44 +194,37 @@ fn on_done(waits: Waits) -> Move
 {
     match waits {
         Waits::Hardware(then) => then,
-        Waits::Message(_, _) => Move::Ignore,
-        Waits::Nothing => Move::Ignore,
+        _ => Move::Ignore,
     }
 }
 
 // A timeout resends three times; the fourth leaves for IDLE.
+#[tactic(auto, unfolding(crate::specs::Machine::on_timeout))]
 fn on_timeout(state: State, retries: u8) -> Move
     ensures { result ≡ on_timeout state retries }
 {
-    if is_idle(state) {
-        return Move::Ignore;
+    if state == State::Idle {
+        Move::Ignore
+    } else if retries < 3 {
+        Move::Resend(retries + 1)
+    } else {
+        Move::Leave
     }
-    if retries < 3 {
-        return Move::Resend(retries + 1);
-    }
-    Move::Leave
 }
 
 // The move that an event asks of a link.
 pub fn asked(config: u8, l: Link, e: Event) -> Move
     ensures { result ≡ asked config l e }
 {
-    let role = l.role;
-    let state = l.state;
     match e {
         Event::Start {
             config: parent,
             mode: on,
         } => on_start(config, l, parent, on),
-        Event::Message(number) => {
-            if is_idle(state) {
-                on_slave_present(config, number)
-            } else {
-                on_message(waits_of(role, state), number)
-            }
-        }
-        Event::Done => on_done(waits_of(role, state)),
-        Event::Timeout => on_timeout(state, l.retries),
+        Event::Message(number) if l.state == State::Idle => on_slave_present(config, number),
+        Event::Message(number) => on_message(waits_of(l.role, l.state), number),
+        Event::Done => on_done(waits_of(l.role, l.state)),
+        Event::Timeout => on_timeout(l.state, l.retries),
         Event::Stop => Move::Leave,
     }
 }
@@ -281,15 +233,8 @@ pub fn asked(config: u8, l: Link, e: Event) -> Move
 fn calibrate(s: Settings) -> LinkMessage
     ensures { result ≡ calibrate_of s }
 {
-    if s.calibrate {
-        return LinkMessage::Calibrate {
-            pattern: 1,
-            retry: s.retry,
-            period: s.period,
-        };
-    }
     LinkMessage::Calibrate {
-        pattern: 0,
+        pattern: u8::from(s.calibrate),
         retry: s.retry,
         period: s.period,
     }
@@ -307,14 +252,12 @@ fn message_of(s: Settings, state: State) -> Sends
     ensures { result ≡ message_of s state }
 {
     match state {
-        State::Idle => Sends::Nothing,
         State::Present => Sends::One(LinkMessage::SlavePresent),
         State::MLock => Sends::One(LinkMessage::Lock),
-        State::SLock => Sends::Nothing,
         State::Locked => Sends::One(LinkMessage::Locked),
         State::Calibration => Sends::One(calibrate(s)),
         State::Calibrated => Sends::One(calibrated(s)),
-        State::RespCalibReq => Sends::Nothing,
+        State::Idle | State::SLock | State::RespCalibReq => Sends::Nothing,
     }
 }
 
@@ -362,8 +305,7 @@ pub fn fresh() -> Link
 fn entered(s: Settings, mode: bool, role: Role, state: State) -> Stepped
     ensures { result ≡ entered s mode role state }
 {
-    let needed = s.calibrate;
-    if is_calibration(state) & !needed {
+    if state == State::Calibration && !s.calibrate {
         return Stepped {
             link: in_state(role, State::Calibrated, mode),
             sends: Sends::Two(calibrate(s), calibrated(s)),
@@ -392,17 +334,9 @@ fn link_on(role: Role) -> Stepped
 fn resent(s: Settings, l: Link, retries: u8) -> Stepped
     ensures { result ≡ resent s l retries }
 {
-    let role = l.role;
-    let state = l.state;
-    let mode = l.mode;
     Stepped {
-        link: Link {
-            role,
-            state,
-            retries,
-            mode,
-        },
-        sends: message_of(s, state),
+        link: Link { retries, ..l },
+        sends: message_of(s, l.state),
         report: false,
     }
 }
@@ -422,21 +356,19 @@ fn left(role: Role) -> Stepped
 fn taken(s: Settings, l: Link, m: Move) -> Stepped
     ensures { result ≡ taken s l m }
 {
-    let role = l.role;
-    let mode = l.mode;
     match m {
         Move::Ignore => ignored(l),
-        Move::Enter(next, state) => entered(s, mode, next, state),
-        Move::LinkOn => link_on(role),
+        Move::Enter(role, state) => entered(s, l.mode, role, state),
+        Move::LinkOn => link_on(l.role),
         Move::Resend(retries) => resent(s, l, retries),
-        Move::Leave => left(role),
+        Move::Leave => left(l.role),
     }
 }
 
 // What an event does to a link, by the port's settings of the moment.
+#[tactic(auto, unfolding(crate::specs::Machine::stepped))]
 pub fn step(s: Settings, l: Link, e: Event) -> Stepped
     ensures { result ≡ stepped s l e }
 {
-    let config = s.config;
-    taken(s, l, asked(config, l, e))
+    taken(s, l, asked(s.config, l, e))
 }
