@@ -1,6 +1,6 @@
 -- A capture read into a trace (02, (vi): "Frames with EtherType 0x88F7 are taken without their 14-octet head, others, and those under 14 octets, passed over;
 -- the caller names the port for the file."; "21 PCAP ..; then 8, then what recording gives the first frame it refuses; .. last .. 16 for too little room").
-use Rattle.std.specs.Prelude.{ℕ, List, [], ◌∷◌, Bool, not, ◌&&◌, eqb, leb, ltb, length, drop, replicate, Result, Ok, Err}
+use Rattle.std.specs.Prelude.{ℕ, List, [], ◌∷◌, Bool, not, ◌&&◌, eqb, leb, ltb, length, drop, replicate, true, false, Result, Ok, Err}
 use Rattle.refusal.specs.Choice.{pick, refuse}
 use Rattle.refusal.specs.Limits.{is_port}
 use Rattle.refusal.specs.declared.Refusal.TheVariants.{Pcap, Port, Room}

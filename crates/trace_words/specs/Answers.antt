@@ -1,6 +1,6 @@
 -- What recording, replaying and looking into a block answer: the number returned, and the words at exit, which a refusal leaves as they
 -- were (01, "Numbers that refuse": "A refusal returns its number alone. State, output buffers and input stay as they were.").
-use Rattle.std.specs.Prelude.{ℕ, List, [], ◌∷◌, Bool, Option, Some, None, Result, Ok, Err}
+use Rattle.std.specs.Prelude.{ℕ, List, [], ◌∷◌, Bool, Option, Some, None, true, false, Result, Ok, Err}
 use Rattle.refusal.specs.Choice.{pick}
 use Rattle.judging.specs.declared.walking.Place.{Place}
 use Rattle.refusal.specs.declared.Refusal.{Refusal}

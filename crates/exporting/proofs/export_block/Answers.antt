@@ -16,7 +16,7 @@ use Rattle.exporting.proofs.export_block.Goals as goal
 pub returns-in_default : goal.returns-in_default
 returns-in_default c =
     let a = c.args in
-    let p = block_refused a.words.now a.s.now a.out.now (not_accepted a.words.now a.s.now (ap is_sound (sym c.judge-v.ensures) ∙ unsound c.judge-v.result c.in_default.not-Sound)) in
+    let p = block_refused a.words.now a.s.now a.out.now (not_accepted a.words.now a.s.now (ap is_sound (sym c.judge-v.ensures) ∙ unsound c.judge-v.result c.in_default.not-Ok)) in
     record { answer = p.0; words = p.1.0; octets = p.1.1 }
 
 pub port_behind-port-requires : goal.port_behind-port-requires
