@@ -75,16 +75,6 @@ pub left_is : (w : ℕ) → word_of (in_state (link_of w).role Idle false) ≡ 8
 unfolding word_of link_of
 left_is w = rw (role_is (w / 8 % 2) (omega arith)) (omega arith)
 
-pub calibration_is : (state : State) → eqb (state_number state) (state_number Calibration) ≡ is_calibration state
-calibration_is Idle = refl
-calibration_is Present = refl
-calibration_is MLock = refl
-calibration_is SLock = refl
-calibration_is Locked = refl
-calibration_is Calibration = refl
-calibration_is Calibrated = refl
-calibration_is RespCalibReq = refl
-
 -- the state's message, by its number, and no other after it
 module _ (s : Settings) where
   pub first_is : (state : State) → sent_first (message_of s state) ≡ sent_in state

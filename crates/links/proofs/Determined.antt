@@ -24,9 +24,6 @@ module _ (κs : Lfts 1) (a : Args contracts.take.signature κs) (x : Res contrac
       let q : e.0.now ≡ take_words a.0.now a.1.0 a.1.1.0 = p.1 in
       rw q (take_kept a.0.now a.1.0 full known a.1.1.0)
 
-pub bit_determined : Fixes contracts.bit.ended its.bit.Reads.Post
-bit_determined κs a x y v w p q = (p ∙ sym q, refl)
-
 pub state_number_determined : Fixes contracts.state_number.ended its.state_number.Reads.Post
 state_number_determined κs a x y v w p q = (p ∙ sym q, refl)
 

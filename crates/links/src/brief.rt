@@ -23,18 +23,17 @@ fn sent_in(state: State) -> u64
     ensures { result ≡ sent_in state }
 {
     match state {
-        State::Idle => 0,
-        State::Present => SLAVE_PRESENT as u64,
-        State::MLock => LOCK as u64,
-        State::SLock => 0,
-        State::Locked => LOCKED as u64,
-        State::Calibration => CALIBRATE as u64,
-        State::Calibrated => CALIBRATED as u64,
-        State::RespCalibReq => 0,
+        State::Present => SLAVE_PRESENT.into(),
+        State::MLock => LOCK.into(),
+        State::Locked => LOCKED.into(),
+        State::Calibration => CALIBRATE.into(),
+        State::Calibrated => CALIBRATED.into(),
+        State::Idle | State::SLock | State::RespCalibReq => 0,
     }
 }
 
 // Nothing is changed, sent or reported; bits that no link has are cleared.
+#[tactic(auto, using(crate::proofs::BriefLaws::word_is), unfolding(crate::specs::Brief::brief_of))]
 fn ignored(w: u64) -> Brief
     ensures { result ≡ brief_of (ignored (link_of w)) }
 {
@@ -47,6 +46,7 @@ fn ignored(w: u64) -> Brief
 }
 
 // The word of a link in a state just entered, with the mode that it had.
+#[tactic(auto, using(crate::proofs::BriefLaws::entered_is))]
 fn in_state(role: Role, state: State, w: u64) -> u64
     ensures { result ≡ word_of (in_state role state (link_of w).mode) }
 {
@@ -54,14 +54,14 @@ fn in_state(role: Role, state: State, w: u64) -> u64
 }
 
 // A state entered, with its message; CALIBRATION, where no calibration is needed, is passed through to CALIBRATED.
+#[tactic(auto, using(crate::proofs::BriefLaws::first_is, crate::proofs::BriefLaws::only_one), unfolding(crate::specs::Brief::brief_of, crate::specs::Words::settings_of))]
 fn entered(settings: u64, w: u64, role: Role, state: State) -> Brief
     ensures { result ≡ brief_of (entered (settings_of settings 0 0) (link_of w).mode role state) }
 {
-    let number = crate::state_number(state);
-    if (number == crate::CALIBRATION) & (settings / 4 % 2 != 1) {
+    if state == State::Calibration && settings / 4 % 2 == 0 {
         return Brief {
             word: in_state(role, State::Calibrated, w),
-            sends: CALIBRATE as u64,
+            sends: CALIBRATE.into(),
             both: true,
             report: false,
         };
@@ -75,32 +75,34 @@ fn entered(settings: u64, w: u64, role: Role, state: State) -> Brief
 }
 
 // Link on: IDLE with the mode on, and a master's WR_MODE_ON.
+#[tactic(auto, using(crate::proofs::BriefLaws::on_is, crate::proofs::BriefLaws::mode_on_is, crate::proofs::BriefLaws::mode_on_alone), unfolding(crate::specs::Brief::brief_of, crate::specs::Words::link_of))]
 fn link_on(w: u64) -> Brief
     ensures { result ≡ brief_of (link_on (link_of w).role) }
 {
     let role = w / 8 % 2;
     Brief {
         word: 8 * role + 16,
-        sends: MODE_ON as u64 * role,
+        sends: u64::from(MODE_ON) * role,
         both: false,
         report: true,
     }
 }
 
 // The state's message once more, and the retry count that this timeout brings.
+#[tactic(auto, using(crate::proofs::BriefLaws::counted_is, crate::proofs::BriefLaws::first_is, crate::proofs::BriefLaws::only_one), unfolding(crate::specs::Brief::brief_of, crate::specs::Words::link_of))]
 fn resent(w: u64, retries: u8) -> Brief
     ensures { result ≡ brief_of (resent (settings_of 0 0 0) (link_of w) retries) }
 {
-    let state = crate::state_of(w % 8);
     Brief {
-        word: w % 32 + 32 * retries as u64,
-        sends: sent_in(state),
+        word: w % 32 + 32 * u64::from(retries),
+        sends: sent_in(crate::state_of(w % 8)),
         both: false,
         report: false,
     }
 }
 
 // IDLE with the mode off.
+#[tactic(auto, using(crate::proofs::BriefLaws::left_is), unfolding(crate::specs::Brief::brief_of))]
 fn left(w: u64) -> Brief
     ensures { result ≡ brief_of (left (link_of w).role) }
 {
@@ -113,6 +115,7 @@ fn left(w: u64) -> Brief
 }
 
 // The step of a link that makes a move.
+#[tactic(auto, using(crate::proofs::BriefLaws::resent_alike))]
 fn moved(settings: u64, w: u64, m: Move) -> Brief
     ensures { result ≡ brief_of (taken (settings_of settings 0 0) (link_of w) m) }
 {
@@ -126,10 +129,10 @@ fn moved(settings: u64, w: u64, m: Move) -> Brief
 }
 
 // What an event does to the link in a word, by the settings in a word.
+#[tactic(auto, unfolding(crate::specs::Words::settings_of, link::specs::Machine::stepped))]
 pub fn step(settings: u64, w: u64, e: Event) -> Brief
     ensures { result ≡ brief_of (stepped (settings_of settings 0 0) (link_of w) e) }
 {
     let config = (settings % 4) as u8;
-    let l = crate::link_of(w);
-    moved(settings, w, link::asked(config, l, e))
+    moved(settings, w, link::asked(config, crate::link_of(w), e))
 }

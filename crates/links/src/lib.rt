@@ -4,68 +4,37 @@
 //
 // A port outside 1 to 18 is refused with 8, a config above 3 with 18; the words are then as they were. Each call reads
 // and writes its own port's words alone.
-ghost use Rattle.std.specs.Prelude.{◌≡◌, ◌≤◌};
+ghost use Rattle.std.specs.Prelude.{◌≡◌, ◌≤◌, not, Ok, Err, IfOk};
 ghost use Rattle.link.specs.States.{state_number, state_of};
-ghost use Rattle.links.specs.Words.{bit, role_number, role_of, word_of, link_of, settings_word, settings_of, IsPort, base, setting_answer, setting_words, take_answer, take_words, look_answer};
-ghost use Rattle.refusal.specs.Limits.{port_count};
+ghost use Rattle.links.specs.Words.{role_number, role_of, word_of, link_of, settings_word, settings_of, IsPort, base, setting_answer, setting_words, take_answer, take_words, look_answer};
+ghost use Rattle.refusal.specs.Choice.{refuse};
+ghost use Rattle.refusal.specs.declared.Refusal.TheVariants.{Port};
 
 pub mod brief;
 
 use link::{Event, Link, Role, Sends, Settings, State, Stepped};
 use refusal::Refusal;
 
-// The states in three bits of a word; IDLE is 0.
-const IDLE: u64 = 0;
-
-const PRESENT: u64 = 1;
-
-const M_LOCK: u64 = 2;
-
-const S_LOCK: u64 = 3;
-
-const LOCKED: u64 = 4;
-
-const CALIBRATION: u64 = 5;
-
-const CALIBRATED: u64 = 6;
-
-const RESP_CALIB_REQ: u64 = 7;
-
-// A bool as a bit of a word.
-pub fn bit(b: bool) -> u64
-    ensures { result ≡ bit b }
-{
-    if b { 1 } else { 0 }
-}
-
-// The number of a state.
+// The number of a state, in three bits of a word; IDLE is 0.
 pub fn state_number(state: State) -> u64
     ensures { result ≡ state_number state }
 {
-    match state {
-        State::Idle => IDLE,
-        State::Present => PRESENT,
-        State::MLock => M_LOCK,
-        State::SLock => S_LOCK,
-        State::Locked => LOCKED,
-        State::Calibration => CALIBRATION,
-        State::Calibrated => CALIBRATED,
-        State::RespCalibReq => RESP_CALIB_REQ,
-    }
+    state as u64
 }
 
 // The state that a number stands for.
+#[tactic(auto, unfolding(link::specs::States::state_of))]
 fn state_of(n: u64) -> State
     ensures { result ≡ state_of n }
 {
     match n {
-        PRESENT => State::Present,
-        M_LOCK => State::MLock,
-        S_LOCK => State::SLock,
-        LOCKED => State::Locked,
-        CALIBRATION => State::Calibration,
-        CALIBRATED => State::Calibrated,
-        RESP_CALIB_REQ => State::RespCalibReq,
+        1 => State::Present,
+        2 => State::MLock,
+        3 => State::SLock,
+        4 => State::Locked,
+        5 => State::Calibration,
+        6 => State::Calibrated,
+        7 => State::RespCalibReq,
         _ => State::Idle,
     }
 }
@@ -74,10 +43,7 @@ fn state_of(n: u64) -> State
 pub fn role_number(role: Role) -> u64
     ensures { result ≡ role_number role }
 {
-    match role {
-        Role::Slave => 0,
-        Role::Master => 1,
-    }
+    role as u64
 }
 
 // The role that a bit stands for.
@@ -88,38 +54,42 @@ fn role_of(n: u64) -> Role
 }
 
 // A link in a word.
+#[tactic(auto, unfolding(crate::specs::Words::word_of))]
 fn word_of(l: Link) -> u64
     ensures { result ≡ word_of l }
 {
-    let state = l.state;
-    let role = l.role;
-    let mode = l.mode;
-    state_number(state) + 8 * role_number(role) + 16 * bit(mode) + 32 * l.retries as u64
+    state_number(l.state)
+        + 8 * role_number(l.role)
+        + 16 * u64::from(l.mode)
+        + 32 * u64::from(l.retries)
 }
 
 // The link that a word holds; any word holds one.
+#[tactic(auto, unfolding(crate::specs::Words::link_of))]
 fn link_of(w: u64) -> Link
     ensures { result ≡ link_of w }
 {
-    let role = role_of(w / 8 % 2);
-    let state = state_of(w % 8);
     Link {
-        role,
-        state,
+        role: role_of(w / 8 % 2),
+        state: state_of(w % 8),
         retries: (w / 32 % 256) as u8,
         mode: w / 16 % 2 == 1,
     }
 }
 
 // The settings but for deltaTx and deltaRx in a word.
+#[tactic(auto, unfolding(crate::specs::Words::settings_word))]
 fn settings_word(s: Settings) -> u64
     ensures { result ≡ settings_word s }
 {
-    let calibrate = s.calibrate;
-    s.config as u64 + 4 * bit(calibrate) + 8 * s.retry as u64 + 2048 * s.period as u64
+    u64::from(s.config)
+        + 4 * u64::from(s.calibrate)
+        + 8 * u64::from(s.retry)
+        + 2048 * u64::from(s.period)
 }
 
 // The settings that three words hold; any words hold some.
+#[tactic(auto, unfolding(crate::specs::Words::settings_of))]
 fn settings_of(w: u64, tx: u64, rx: u64) -> Settings
     ensures { result ≡ settings_of w tx rx }
 {
@@ -134,57 +104,53 @@ fn settings_of(w: u64, tx: u64, rx: u64) -> Settings
 }
 
 // Where a port's four words begin.
-pub fn place(port: u8) -> usize
-    requires { (1 ≤ port) × (port ≤ port_count) }
-    ensures { (result ≡ base port) × (result ≤ 68) }
+#[tactic(auto, unfolding(refusal::specs::Choice::refuse))]
+pub fn place(port: u8) -> Result<usize, Refusal>
+    ensures answer { result ≡ refuse (not (IsPort port)) (Err Port) (Ok (base port)) }
+    ensures within { IfOk result (λ at. at ≤ 68) }
 {
-    4 * (port as usize - 1)
+    if refusal::is_port(port) {
+        Ok(4 * (usize::from(port) - 1))
+    } else {
+        Err(Refusal::Port)
+    }
 }
 
 // Sets a port's link up.
+#[tactic(auto, unfolding(crate::specs::Words::setting_answer, crate::specs::Words::setting_words, refusal::specs::Choice::refuse))]
 pub fn set(words: &mut [u64; 72], port: u8, s: Settings) -> Result<(), Refusal>
     ensures answer { result ≡ setting_answer port s }
     ensures exit { words.new ≡ setting_words words.old port s }
 {
-    if !refusal::is_port(port) {
-        return Err(Refusal::Port);
-    }
+    let at = place(port)?;
     if 3 < s.config {
         return Err(Refusal::Field);
     }
-    let at = place(port);
-    let tx = s.tx;
-    let rx = s.rx;
     words[at + 1] = settings_word(s);
-    words[at + 2] = tx;
-    words[at + 3] = rx;
+    words[at + 2] = s.tx;
+    words[at + 3] = s.rx;
     Ok(())
 }
 
 // Takes an event on a port: the step of its link, under its settings.
+#[tactic(auto, unfolding(crate::specs::Words::take_answer, crate::specs::Words::take_words, refusal::specs::Choice::refuse))]
 pub fn take(words: &mut [u64; 72], port: u8, e: Event) -> Result<Stepped, Refusal>
     ensures answer { result ≡ take_answer words.old port e }
     ensures exit { words.new ≡ take_words words.old port e }
 {
-    if !refusal::is_port(port) {
-        return Err(Refusal::Port);
-    }
-    let at = place(port);
+    let at = place(port)?;
     let s = settings_of(words[at + 1], words[at + 2], words[at + 3]);
     let r = link::step(s, link_of(words[at]), e);
-    let l = r.link;
-    words[at] = word_of(l);
+    words[at] = word_of(r.link);
     Ok(r)
 }
 
 // A port's link as it stands: what an event that is ignored answers.
+#[tactic(auto, unfolding(crate::specs::Words::look_answer, refusal::specs::Choice::refuse))]
 pub fn look(words: &[u64; 72], port: u8) -> Result<Stepped, Refusal>
     ensures { result ≡ look_answer words.now port }
 {
-    if !refusal::is_port(port) {
-        return Err(Refusal::Port);
-    }
-    let at = place(port);
+    let at = place(port)?;
     Ok(Stepped {
         link: link_of(words[at]),
         sends: Sends::Nothing,
