@@ -153,3 +153,6 @@ module _ (s t : Settings) where
 pub without_latencies : (w tx rx : ℕ) (l : Link) (e : Event) → brief_of (stepped (settings_of w tx rx) l e) ≡ brief_of (stepped (settings_of w 0 0) l e)
 unfolding settings_of stepped
 without_latencies w tx rx l e = taken_alike (settings_of w tx rx) (settings_of w 0 0) refl l (asked (w % 4) l e)
+
+-- what each function of src/brief.rt is proved by
+pub ruleset brief_laws = (word_is, entered_is, on_is, left_is, counted_is, first_is, only_one, mode_on_is, mode_on_alone, resent_alike)

@@ -1,3 +1,4 @@
+#![tactic(auto, using(crate::proofs::BriefLaws::brief_laws), unfolding(crate::specs::Brief::brief_of, crate::specs::Words::link_of, crate::specs::Words::settings_of, link::specs::Machine::stepped))]
 // A step in numbers, from the word that holds a link to the word that holds it afterwards: what a host is answered is written
 // from these, with no values in between. What a link's CALIBRATED carries plays no part here, so its settings are one word.
 ghost use Rattle.std.specs.Prelude.{◌≡◌};
@@ -33,7 +34,6 @@ fn sent_in(state: State) -> u64
 }
 
 // Nothing is changed, sent or reported; bits that no link has are cleared.
-#[tactic(auto, using(crate::proofs::BriefLaws::word_is), unfolding(crate::specs::Brief::brief_of))]
 fn ignored(w: u64) -> Brief
     ensures { result ≡ brief_of (ignored (link_of w)) }
 {
@@ -46,7 +46,6 @@ fn ignored(w: u64) -> Brief
 }
 
 // The word of a link in a state just entered, with the mode that it had.
-#[tactic(auto, using(crate::proofs::BriefLaws::entered_is))]
 fn in_state(role: Role, state: State, w: u64) -> u64
     ensures { result ≡ word_of (in_state role state (link_of w).mode) }
 {
@@ -54,7 +53,6 @@ fn in_state(role: Role, state: State, w: u64) -> u64
 }
 
 // A state entered, with its message; CALIBRATION, where no calibration is needed, is passed through to CALIBRATED.
-#[tactic(auto, using(crate::proofs::BriefLaws::first_is, crate::proofs::BriefLaws::only_one), unfolding(crate::specs::Brief::brief_of, crate::specs::Words::settings_of))]
 fn entered(settings: u64, w: u64, role: Role, state: State) -> Brief
     ensures { result ≡ brief_of (entered (settings_of settings 0 0) (link_of w).mode role state) }
 {
@@ -75,7 +73,6 @@ fn entered(settings: u64, w: u64, role: Role, state: State) -> Brief
 }
 
 // Link on: IDLE with the mode on, and a master's WR_MODE_ON.
-#[tactic(auto, using(crate::proofs::BriefLaws::on_is, crate::proofs::BriefLaws::mode_on_is, crate::proofs::BriefLaws::mode_on_alone), unfolding(crate::specs::Brief::brief_of, crate::specs::Words::link_of))]
 fn link_on(w: u64) -> Brief
     ensures { result ≡ brief_of (link_on (link_of w).role) }
 {
@@ -89,7 +86,6 @@ fn link_on(w: u64) -> Brief
 }
 
 // The state's message once more, and the retry count that this timeout brings.
-#[tactic(auto, using(crate::proofs::BriefLaws::counted_is, crate::proofs::BriefLaws::first_is, crate::proofs::BriefLaws::only_one), unfolding(crate::specs::Brief::brief_of, crate::specs::Words::link_of))]
 fn resent(w: u64, retries: u8) -> Brief
     ensures { result ≡ brief_of (resent (settings_of 0 0 0) (link_of w) retries) }
 {
@@ -102,7 +98,6 @@ fn resent(w: u64, retries: u8) -> Brief
 }
 
 // IDLE with the mode off.
-#[tactic(auto, using(crate::proofs::BriefLaws::left_is), unfolding(crate::specs::Brief::brief_of))]
 fn left(w: u64) -> Brief
     ensures { result ≡ brief_of (left (link_of w).role) }
 {
@@ -115,7 +110,6 @@ fn left(w: u64) -> Brief
 }
 
 // The step of a link that makes a move.
-#[tactic(auto, using(crate::proofs::BriefLaws::resent_alike))]
 fn moved(settings: u64, w: u64, m: Move) -> Brief
     ensures { result ≡ brief_of (taken (settings_of settings 0 0) (link_of w) m) }
 {
@@ -129,7 +123,6 @@ fn moved(settings: u64, w: u64, m: Move) -> Brief
 }
 
 // What an event does to the link in a word, by the settings in a word.
-#[tactic(auto, unfolding(crate::specs::Words::settings_of, link::specs::Machine::stepped))]
 pub fn step(settings: u64, w: u64, e: Event) -> Brief
     ensures { result ≡ brief_of (stepped (settings_of settings 0 0) (link_of w) e) }
 {

@@ -1,4 +1,4 @@
-#![tactic(auto)]
+#![tactic(auto, unfolding(crate::specs::Words::word_of, crate::specs::Words::link_of, crate::specs::Words::settings_word, crate::specs::Words::settings_of, crate::specs::Words::setting_answer, crate::specs::Words::setting_words, crate::specs::Words::take_answer, crate::specs::Words::take_words, crate::specs::Words::look_answer, link::specs::States::state_of, refusal::specs::Choice::refuse))]
 // Eighteen links and their settings, one a port, in 72 words that the host lends: four a port, which hold the link, its
 // settings, deltaTx and deltaRx. Zeroed words are eighteen fresh links with config 0, and any words are links.
 //
@@ -23,7 +23,6 @@ pub fn state_number(state: State) -> u64
 }
 
 // The state that a number stands for.
-#[tactic(auto, unfolding(link::specs::States::state_of))]
 fn state_of(n: u64) -> State
     ensures { result ≡ state_of n }
 {
@@ -54,7 +53,6 @@ fn role_of(n: u64) -> Role
 }
 
 // A link in a word.
-#[tactic(auto, unfolding(crate::specs::Words::word_of))]
 fn word_of(l: Link) -> u64
     ensures { result ≡ word_of l }
 {
@@ -65,7 +63,6 @@ fn word_of(l: Link) -> u64
 }
 
 // The link that a word holds; any word holds one.
-#[tactic(auto, unfolding(crate::specs::Words::link_of))]
 fn link_of(w: u64) -> Link
     ensures { result ≡ link_of w }
 {
@@ -78,7 +75,6 @@ fn link_of(w: u64) -> Link
 }
 
 // The settings but for deltaTx and deltaRx in a word.
-#[tactic(auto, unfolding(crate::specs::Words::settings_word))]
 fn settings_word(s: Settings) -> u64
     ensures { result ≡ settings_word s }
 {
@@ -89,7 +85,6 @@ fn settings_word(s: Settings) -> u64
 }
 
 // The settings that three words hold; any words hold some.
-#[tactic(auto, unfolding(crate::specs::Words::settings_of))]
 fn settings_of(w: u64, tx: u64, rx: u64) -> Settings
     ensures { result ≡ settings_of w tx rx }
 {
@@ -104,7 +99,6 @@ fn settings_of(w: u64, tx: u64, rx: u64) -> Settings
 }
 
 // Where a port's four words begin.
-#[tactic(auto, unfolding(refusal::specs::Choice::refuse))]
 pub fn place(port: u8) -> Result<usize, Refusal>
     ensures answer { result ≡ refuse (not (IsPort port)) (Err Port) (Ok (base port)) }
     ensures within { IfOk result (λ at. at ≤ 68) }
@@ -117,7 +111,6 @@ pub fn place(port: u8) -> Result<usize, Refusal>
 }
 
 // Sets a port's link up.
-#[tactic(auto, unfolding(crate::specs::Words::setting_answer, crate::specs::Words::setting_words, refusal::specs::Choice::refuse))]
 pub fn set(words: &mut [u64; 72], port: u8, s: Settings) -> Result<(), Refusal>
     ensures answer { result ≡ setting_answer port s }
     ensures exit { words.new ≡ setting_words words.old port s }
@@ -133,7 +126,6 @@ pub fn set(words: &mut [u64; 72], port: u8, s: Settings) -> Result<(), Refusal>
 }
 
 // Takes an event on a port: the step of its link, under its settings.
-#[tactic(auto, unfolding(crate::specs::Words::take_answer, crate::specs::Words::take_words, refusal::specs::Choice::refuse))]
 pub fn take(words: &mut [u64; 72], port: u8, e: Event) -> Result<Stepped, Refusal>
     ensures answer { result ≡ take_answer words.old port e }
     ensures exit { words.new ≡ take_words words.old port e }
@@ -146,7 +138,6 @@ pub fn take(words: &mut [u64; 72], port: u8, e: Event) -> Result<Stepped, Refusa
 }
 
 // A port's link as it stands: what an event that is ignored answers.
-#[tactic(auto, unfolding(crate::specs::Words::look_answer, refusal::specs::Choice::refuse))]
 pub fn look(words: &[u64; 72], port: u8) -> Result<Stepped, Refusal>
     ensures { result ≡ look_answer words.now port }
 {
