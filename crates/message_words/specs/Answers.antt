@@ -23,21 +23,30 @@ tail_words (Ok m) size out = size_of m.body ∷ size ∷ []
 tail_words (Err x) size out = out
 
 -- 1, where the data begin in the message, and how many octets they are; zeros where there is none
+abbrev pub data_words : ℕ → Option ℕ → List ℕ
+data_words size (Some at) = 1 ∷ at ∷ size ∷ []
+data_words size None = 0 ∷ 0 ∷ 0 ∷ []
+
 abbrev pub tlv_words : Result (Option ℕ) Refusal → ℕ → List ℕ → List ℕ
-tlv_words (Ok (Some at)) size out = 1 ∷ at ∷ size ∷ []
-tlv_words (Ok None) size out = 0 ∷ 0 ∷ 0 ∷ []
+tlv_words (Ok x) size out = data_words size x
 tlv_words (Err x) size out = out
 
 -- 1, where the TLV stands in the message, its type, how many octets of data it has, where they begin and where it ends; zeros where there is none
+abbrev pub place_words : Option Tlv → List ℕ
+place_words (Some x) = 1 ∷ x.place ∷ x.kind ∷ x.length ∷ begin_of x ∷ end_of x ∷ []
+place_words None = 0 ∷ 0 ∷ 0 ∷ 0 ∷ 0 ∷ 0 ∷ []
+
 abbrev pub walked_words : Result (Option Tlv) Refusal → List ℕ → List ℕ
-walked_words (Ok (Some x)) out = 1 ∷ x.place ∷ x.kind ∷ x.length ∷ begin_of x ∷ end_of x ∷ []
-walked_words (Ok None) out = 0 ∷ 0 ∷ 0 ∷ 0 ∷ 0 ∷ 0 ∷ []
+walked_words (Ok x) out = place_words x
 walked_words (Err x) out = out
 
 -- 1 and wrFlags, or zeros
+abbrev pub flags_words : Option ℕ → List ℕ
+flags_words (Some n) = 1 ∷ n ∷ []
+flags_words None = 0 ∷ 0 ∷ []
+
 abbrev pub suffix_words : Result (Option ℕ) Refusal → List ℕ → List ℕ
-suffix_words (Ok (Some n)) out = 1 ∷ n ∷ []
-suffix_words (Ok None) out = 0 ∷ 0 ∷ []
+suffix_words (Ok x) out = flags_words x
 suffix_words (Err x) out = out
 
 -- NUMBER PATTERN RETRY PERIOD TX RX, zeros for what it does not carry
@@ -50,9 +59,12 @@ link_message_words (Calibrated tx rx) = CALIBRATED ∷ 0 ∷ 0 ∷ 0 ∷ tx ∷ 
 link_message_words ModeOn = WR-MODE-ON ∷ 0 ∷ 0 ∷ 0 ∷ 0 ∷ 0 ∷ []
 
 -- 1 and the link message, or zeros
+abbrev pub carried_words : Option LinkMessage → List ℕ
+carried_words (Some m) = 1 ∷ link_message_words m
+carried_words None = 0 ∷ 0 ∷ 0 ∷ 0 ∷ 0 ∷ 0 ∷ 0 ∷ []
+
 abbrev pub link_words : Result (Option LinkMessage) Refusal → List ℕ → List ℕ
-link_words (Ok (Some m)) out = 1 ∷ link_message_words m
-link_words (Ok None) out = 0 ∷ 0 ∷ 0 ∷ 0 ∷ 0 ∷ 0 ∷ 0 ∷ []
+link_words (Ok x) out = carried_words x
 link_words (Err x) out = out
 
 -- the seconds and the nanoseconds in the ten octets of an origin time

@@ -202,14 +202,7 @@ pub fn are_same(a: &[u64], b: &[u64]) -> bool
     requires { length a.now ≡ length b.now }
     ensures { result ≡ same a.now b.now }
 {
-    let mut i: usize = 0;
-    while i < a.len() {
-        if a[i] != b[i] {
-            return false;
-        }
-        i += 1;
-    }
-    true
+    a == b
 }
 
 // Whether a word is a signed octet.
@@ -278,8 +271,7 @@ pub fn is_whole(w: &[u64; 20]) -> bool
     ensures { result ≡ is_whole w.now }
 {
     let header = header_fits(w);
-    let all = &w[..];
-    let kind = all[0];
+    let kind = w[0];
     match kind {
         0x0 => header & stamp_fits(w),
         0x1 => header & stamp_fits(w),

@@ -92,16 +92,13 @@ fn check(w: &[u64; 20], tail: &[u8], magic: u16, room: usize) -> Result<(), Refu
     if tail.len() > 65535 - size {
         return Err(Refusal::Field);
     }
-    match message::reading::tail_check(tail, size, magic) {
-        Err(_) => Err(Refusal::Field),
-        Ok(()) => {
-            if room < size + tail.len() {
-                Err(Refusal::Room)
-            } else {
-                Ok(())
-            }
-        }
+    if message::reading::tail_check(tail, size, magic).is_err() {
+        return Err(Refusal::Field);
     }
+    if room < size + tail.len() {
+        return Err(Refusal::Room);
+    }
+    Ok(())
 }
 
 // Its header, for a message of `size` octets.
@@ -144,15 +141,11 @@ pub fn write(out: &mut [u8], w: &[u64; 20], tail: &[u8], magic: u16) -> Result<u
     ensures answer { result ≡ write_of magic (message_of w.now) tail.now out.old }
     ensures buffer { out.new ≡ buffer_of magic (message_of w.now) tail.now out.old }
 {
-    match check(w, tail, magic, out.len()) {
-        Err(x) => Err(x),
-        Ok(()) => {
-            let size = size_of(w);
-            let n = size + tail.len();
-            put_header(out, w, n as u16);
-            put_body(out, w);
-            stores::copy_in(out, size, tail);
-            Ok(n)
-        }
-    }
+    check(w, tail, magic, out.len())?;
+    let size = size_of(w);
+    let n = size + tail.len();
+    put_header(out, w, n as u16);
+    put_body(out, w);
+    stores::copy_in(out, size, tail);
+    Ok(n)
 }

@@ -1,9 +1,9 @@
 // What writing is handed in words, and what it answers.
-ghost use Rattle.std.specs.Prelude.{◌≡◌, ◌≤◌};
+ghost use Rattle.std.specs.Prelude.{◌≡◌, ◌≤◌, [], ◌∷◌};
 ghost use Rattle.message_words.specs.Writing.{link_message_of, link_words_for, is_link, written_code, written_words};
 
-use refusal::Refusal;
 use crate::answers::{CALIBRATE, CALIBRATED, LOCK, LOCKED, SLAVE_PRESENT};
+use refusal::Refusal;
 use tlv::wr::LinkMessage;
 
 // The link message in six words; a number that is none of the six is not this message's, and `is_link` refuses it.
@@ -36,22 +36,21 @@ fn words_for(number: u64) -> usize
 pub fn is_link(w: &[u64; 6]) -> bool
     ensures { result ≡ is_link w.now }
 {
-    let all = &w[..];
     let n = words_for(w[0]);
     let own = crate::answers::link_message_words(link_message_of(w));
-    crate::are_same(&own[0..n], &all[0..n])
+    crate::are_same(&own[..n], &w[..n])
 }
 
 // How many octets the message has that was written.
+fn length_words(n: usize) -> [u64; 1]
+    ensures { result ≡ n ∷ [] }
+{
+    [n as u64]
+}
+
 pub fn put_written(out: &mut [u64; 1], x: Result<usize, Refusal>) -> u64
     ensures answer { result ≡ written_code x }
     ensures words { out.new ≡ written_words x out.old }
 {
-    match x {
-        Err(y) => refusal::answer(y),
-        Ok(n) => {
-            *out = [n as u64];
-            0
-        }
-    }
+    words::put(out, x.map(length_words).map_err(refusal::answer))
 }
