@@ -85,8 +85,8 @@ fn write(s: &mut [u64], r: Record, identity: u64, grade: u64)
 }
 
 // The record in slot `i`.
-fn load(ws: &[u64], i: usize) -> Record
-    requires { (length ws.now ≡ port_words) × (i < 16) }
+fn load(ws: &[u64; WORDS], i: usize) -> Record
+    requires { i < 16 }
     ensures { result ≡ slot_at ws.now i }
 {
     let b = 2 + 6 * i;
@@ -94,8 +94,8 @@ fn load(ws: &[u64], i: usize) -> Record
 }
 
 // Slot `i` holds the record afterwards, and no other word changes.
-fn store(ws: &mut [u64], i: usize, r: Record, identity: u64, grade: u64)
-    requires ws_len { (length ws.old ≡ port_words) × (i < 16) }
+fn store(ws: &mut [u64; WORDS], i: usize, r: Record, identity: u64, grade: u64)
+    requires inside { i < 16 }
     requires identity_value { (identity ≡ r.notice.grandmaster.identity) × (grade ≡ grade_word r.notice.grandmaster r.notice.steps) }
     ensures { ws.new ≡ put_slot ws.old i r }
 {
@@ -115,8 +115,7 @@ fn is_sought(r: Record, x: Sought) -> bool
 
 // The lowest slot whose record is a sender's, or 16. This and the next are one search in two functions: each has one caller
 // then, and is made one piece with it.
-fn find_of(ws: &[u64], sender: PortIdentity) -> usize
-    requires { length ws.now ≡ port_words }
+fn find_of(ws: &[u64; WORDS], sender: PortIdentity) -> usize
     ensures { result ≡ first (sought_in (Sought.Of sender)) (slots_of ws.now) }
 {
     let mut i = 0;
@@ -130,8 +129,7 @@ fn find_of(ws: &[u64], sender: PortIdentity) -> usize
 }
 
 // The lowest slot that is empty or expired, or 16.
-fn find_free(ws: &[u64], w: u64, t: u64) -> usize
-    requires { length ws.now ≡ port_words }
+fn find_free(ws: &[u64; WORDS], w: u64, t: u64) -> usize
     ensures { result ≡ first (sought_in (Sought.Free w t)) (slots_of ws.now) }
 {
     let mut i = 0;
@@ -145,8 +143,7 @@ fn find_free(ws: &[u64], w: u64, t: u64) -> usize
 }
 
 // What an Announce at `t` is to do.
-pub fn plan(ws: &[u64], t: u64, a: Notice) -> Result<(usize, Record), Refusal>
-    requires { length ws.now ≡ port_words }
+pub fn plan(ws: &[u64; WORDS], t: u64, a: Notice) -> Result<(usize, Record), Refusal>
     ensures { result ≡ plan_of (port_of ws.now) t a }
 {
     if t < ws[0] {
@@ -163,8 +160,8 @@ pub fn plan(ws: &[u64], t: u64, a: Notice) -> Result<(usize, Record), Refusal>
 
 // Carries out a plan that puts a record into slot `i`: the record and the time are written. The grandmaster and the word of its
 // quality are handed on by the caller, who reads them where they are kept and not before the slots are searched.
-pub fn put(ws: &mut [u64], i: usize, t: u64, r: Record, identity: u64, grade: u64)
-    requires ws_len { (length ws.old ≡ port_words) × (i < 16) }
+pub fn put(ws: &mut [u64; WORDS], i: usize, t: u64, r: Record, identity: u64, grade: u64)
+    requires inside { i < 16 }
     requires identity_value { (identity ≡ r.notice.grandmaster.identity) × (grade ≡ grade_word r.notice.grandmaster r.notice.steps) }
     ensures { ws.new ≡ words_after ws.old t (Ok (i, r)) }
 {
@@ -173,8 +170,7 @@ pub fn put(ws: &mut [u64], i: usize, t: u64, r: Record, identity: u64, grade: u6
 }
 
 // What slot `i` holds.
-pub fn slot(ws: &[u64], i: usize) -> Option<Record>
-    requires { length ws.now ≡ port_words }
+pub fn slot(ws: &[u64; WORDS], i: usize) -> Option<Record>
     ensures { result ≡ seen_in (port_of ws.now) i }
 {
     if i < SLOTS {
@@ -187,8 +183,7 @@ pub fn slot(ws: &[u64], i: usize) -> Option<Record>
 }
 
 // The candidate in slot `i` at `t`; `port` is the port that keeps it.
-pub fn candidate(ws: &[u64], port: u8, i: usize, t: u64) -> Result<Option<Candidate>, Refusal>
-    requires { length ws.now ≡ port_words }
+pub fn candidate(ws: &[u64; WORDS], port: u8, i: usize, t: u64) -> Result<Option<Candidate>, Refusal>
     ensures { result ≡ asked_of (port_of ws.now) t (candidate_in port (port_of ws.now) i t) }
 {
     if t < ws[0] {
@@ -238,8 +233,8 @@ fn later_keys(a: u64, b: u64) -> bool
 }
 
 // Whether the record that begins at `a` is qualified and stands before the one that begins at `b`; `b` is 0 where there is none.
-fn outdoes(ws: &[u64], a: usize, b: usize, w: u64, t: u64) -> bool
-    requires { (length ws.now ≡ port_words) × (a + 6 ≤ port_words) × (b + 6 ≤ port_words) }
+fn outdoes(ws: &[u64; WORDS], a: usize, b: usize, w: u64, t: u64) -> bool
+    requires { (a + 6 ≤ port_words) × (b + 6 ≤ port_words) }
     ensures { result ≡ outdoes_in ws.now a b w t }
 {
     let s = &ws[a..a + 6];
@@ -261,8 +256,7 @@ fn since(w: u64, t: u64) -> u64
 
 // Where the record of the best candidate at `t` begins, or 0; from the last slot to the first. A record is qualified at `t`
 // where it is at the begin of the window, by a window of no length: one comparison a slot.
-fn best_place(ws: &[u64], w: u64, t: u64) -> usize
-    requires { length ws.now ≡ port_words }
+fn best_place(ws: &[u64; WORDS], w: u64, t: u64) -> usize
     ensures { result ≡ place_among ws.now w t 16 }
 {
     let begin = since(w, t);
@@ -279,8 +273,7 @@ fn best_place(ws: &[u64], w: u64, t: u64) -> usize
 }
 
 // The best candidate at `t`.
-pub fn best(ws: &[u64], port: u8, t: u64) -> Result<Option<Candidate>, Refusal>
-    requires { length ws.now ≡ port_words }
+pub fn best(ws: &[u64; WORDS], port: u8, t: u64) -> Result<Option<Candidate>, Refusal>
     ensures { result ≡ asked_of (port_of ws.now) t (best_of port (port_of ws.now) t) }
 {
     if t < ws[0] {
@@ -294,8 +287,7 @@ pub fn best(ws: &[u64], port: u8, t: u64) -> Result<Option<Candidate>, Refusal>
 }
 
 // Where the record of the best candidate at `t` begins in the port's words, or 0 where there is none.
-pub fn place(ws: &[u64], t: u64) -> usize
-    requires { length ws.now ≡ port_words }
+pub fn place(ws: &[u64; WORDS], t: u64) -> usize
     ensures { result ≡ place_in ws.now t }
 {
     best_place(ws, senders::window(ws[1]), t)
@@ -325,24 +317,21 @@ pub fn comes_before(a: &[u64], b: &[u64]) -> bool
 }
 
 // The last accepted time.
-pub fn last(ws: &[u64]) -> u64
-    requires { length ws.now ≡ port_words }
+pub fn last(ws: &[u64; WORDS]) -> u64
     ensures { result ≡ (port_of ws.now).last }
 {
     ws[0]
 }
 
 // The interval's exponent modulo 8, as it was set.
-pub fn exponent(ws: &[u64]) -> u64
-    requires { length ws.now ≡ port_words }
+pub fn exponent(ws: &[u64; WORDS]) -> u64
     ensures { result ≡ (port_of ws.now).e }
 {
     ws[1]
 }
 
 // Sets the interval's exponent, modulo 8.
-pub fn set_exponent(ws: &mut [u64], e: u64)
-    requires { length ws.old ≡ port_words }
+pub fn set_exponent(ws: &mut [u64; WORDS], e: u64)
     ensures { ws.new ≡ set ws.old 1 e }
 {
     ws[1] = e;

@@ -25,7 +25,7 @@ pub returns-then-b-eq0 : goal.returns-then-b-eq0
 returns-then-b-eq0 c =
     let g = c.args in
     ask_on (port_of g.ws.now) g.t _ _ c.if-t-ws.false
-    (best_no g.port g.ws.now _ g.t _ c.window.ensures (found g.ws.now g.port _ g.t _ (λ i. (c.type_inv.ws i).fits) c.best_place-b.ensures) c.if-b-eq0.true)
+    (best_no g.port g.ws.now _ g.t _ c.window.ensures (found g.ws.now g.port _ g.t _ c.fits-ws c.best_place-b.ensures) c.if-b-eq0.true)
 
 pub overflow_add-b : goal.overflow_add-b
 overflow_add-b c = omega (arith, among_bound c.args.ws.now c.window.result c.args.t 16)
@@ -41,5 +41,5 @@ unfolding record_of
 returns c =
     let g = c.args in
     ask_on (port_of g.ws.now) g.t _ _ c.if-t-ws.false
-    (best_yes g.port g.ws.now _ g.t _ c.window.ensures (found g.ws.now g.port _ g.t _ (λ i. (c.type_inv.ws i).fits) c.best_place-b.ensures) _ _ c.if-b-eq0.false
+    (best_yes g.port g.ws.now _ g.t _ c.window.ensures (found g.ws.now g.port _ g.t _ c.fits-ws c.best_place-b.ensures) _ _ c.if-b-eq0.false
     (c.read.ensures ∙ ap of_six (lent g.ws.now c.best_place-b.result 6)) c.candidate.ensures)
