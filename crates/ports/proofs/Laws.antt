@@ -1,24 +1,22 @@
 -- Laws of eighteen ports: a port that is one, its part of the words, and the cases of taking, asking and setting.
 use Rattle.std.specs.Prelude.{Option, Some, Result, Ok, Err}
 use mathlib.Core.Path.{◌≡◌, refl, sym, ap, ◌∙◌}
-use mathlib.Core.Bool.{Bool, true, false, not, or-false}
+use mathlib.Core.Bool.{Bool, true, false, not}
 use mathlib.Core.List.{List, ◌++◌}
 use Prim.Native.Nat.{ℕ, suc, ◌+◌, ◌-◌, ◌*◌, ◌%◌, ◌≤◌, ◌<◌}
 use native.Mathlib.Omega.{arith}
-use native.Mathlib.Decide.{dec_le}
-use lib.Dec.{leb, ltb}
-use lib.IntN.{ℤ, pos, negsuc}
+use lib.Dec.{ltb}
 use lib.ListN.{take, drop, set, take-append-drop}
 use lib.Seq.{drop-drop}
 use mir.Syntax.{w8}
-use mir.Val.{to_z, of_z, SFits}
+use mir.Val.{to_z}
 use mir.ValLaws.{to_z_pos, to_z-neg}
-use borrow.Author.Tests.{not-true, not-false, le-leb, lt-leb, lt-ltb, le-ltb}
+use borrow.Author.Tests.{not-true, not-false, lt-ltb, le-ltb}
 pub use Rattle.refusal.proofs.Limits.{port_bounds}
 use Rattle.refusal.specs.Choice.{refuse}
 use Rattle.refusal.specs.declared.Refusal.{Refusal}
 use Rattle.refusal.specs.declared.Refusal.TheVariants.{Port, Backward, Field}
-use Rattle.refusal.proofs.Choice.{passed}
+use Rattle.refusal.proofs.Choice.{passed, stops, passes}
 use Rattle.rank.specs.declared.Candidate.{Candidate}
 use Rattle.rank.specs.Ranked.{is_port}
 use Rattle.senders.specs.declared.Notice as kept
@@ -29,7 +27,7 @@ use Rattle.ports.specs.declared.intake.Settings.{Settings}
 use Rattle.ports.specs.Words.{own, with, port_at}
 use Rattle.ports.specs.Intake.{admitted_of, admitted_by, plan_by, plan_at, state_after}
 use Rattle.ports.specs.Asking.{on_port}
-use Rattle.ports.specs.Interval.{is_interval, in_range, interval_of, set_by, after_by, interval_set, interval_after}
+use Rattle.ports.specs.Interval.{interval_of, set_by, after_by}
 use Rattle.message.specs.Announced.{announced_of}
 use Rattle.senders.specs.declared.Notice.{Notice}
 use Rattle.senders.specs.declared.Record.{Record}
@@ -70,6 +68,13 @@ module _ (set : Settings) (ws : List ℕ) (port t : ℕ) (s : List ℕ) where
       let p : plan_by (port_at ws port) t (Err x) ≡ plan_by (port_at ws port) t (admitted_of set port s) = ap (plan_by (port_at ws port) t) (sym f ∙ e) in
       (ap senders.outcome_of p, ap (state_after ws port t) p)
 
+  pub plan_refused : (a : kept.Notice) (x : Refusal) → Ok a ≡ admitted_of set port s → Err x ≡ senders.plan_of (port_at ws port) t a
+      → (Err x ≡ senders.outcome_of (plan_at set ws port t s)) × (ws ≡ state_after ws port t (plan_at set ws port t s))
+  unfolding plan_at
+  plan_refused a x e f =
+      let p : Err x ≡ plan_by (port_at ws port) t (admitted_of set port s) = f ∙ ap (plan_by (port_at ws port) t) e in
+      (ap senders.outcome_of p, ap (state_after ws port t) p)
+
   pub take_on : (q : Result Notice Refusal) (a : kept.Notice) (part vs : List ℕ) (r : Result (Unit {0}) Refusal) → q ≡ admitted_of set port s → q ≡ Ok a → part ≡ own ws port
       → (r ≡ senders.outcome_of (senders.plan_of (port_of part) t a)) × (vs ≡ words_after part t (senders.plan_of (port_of part) t a))
       → (r ≡ senders.outcome_of (plan_at set ws port t s)) × (with ws port vs ≡ state_after ws port t (plan_at set ws port t s))
@@ -84,6 +89,14 @@ module _ (set : Settings) (ws : List ℕ) (port t : ℕ) (s : List ℕ) where
       )
 
 -- ---- asking
+-- a port that is none is refused with 8, and any other answers
+pub no_port : {A : Type 0} (r rest : Result A Refusal) (port : ℕ) (x : Refusal) → (y : Refusal) × (r ≡ Err y) × (y ≡ x) → (is_port port ≡ false) × (x ≡ Port)
+    → r ≡ refuse (not (is_port port)) (Err Port) rest
+no_port r rest port x p w = rw (p.1, p.2, w.1) (stops rest (ap not w.0))
+
+pub on_port_is : {A : Type 0} {answer rest : Result A Refusal} (port : ℕ) → is_port port ≡ true → answer ≡ rest → answer ≡ refuse (not (is_port port)) (Err Port) rest
+on_port_is port e f = passes (Err Port) (ap not e) f
+
 -- what is found was refused neither with 8 nor with 11
 module _ (ws : List ℕ) (port t : ℕ) (answer : Result (Option Candidate) Refusal) (c : Candidate) where
   not_found : (x : Refusal) → ◌≡◌ {A = Result (Option Candidate) Refusal} (Err x) (Ok (Some c)) → ⊥
@@ -96,26 +109,6 @@ module _ (ws : List ℕ) (port t : ℕ) (answer : Result (Option Candidate) Refu
       (not-false _ on.0, (passed (Err Backward) answer (Ok (Some c)) (ltb t p.last) (not_found Backward) on.1).1)
 
 -- ---- the interval
-leb_same : (a b n m : ℕ) → (a ≤ b → n ≤ m) → (n ≤ m → a ≤ b) → leb a b ≡ leb n m
-leb_same a b n m f g = by (dec_le n m)
-  where
-    by : Dec (n ≤ m) → leb a b ≡ leb n m
-    by (yes h) = le-leb a b (g h) ∙ sym (le-leb n m h)
-    by (no h) = lt-leb a b (by_not (dec_le a b)) ∙ sym (lt-leb n m (omega arith))
-      where
-        by_not : Dec (a ≤ b) → b < a
-        by_not (yes k) = absurd (h (f k))
-        by_not (no k) = omega arith
-
--- -3 to 4, in two's complement
-pub interval_test : (k : ℤ) → SFits w8 k → in_range (of_z w8 k) ≡ is_interval k
-interval_test (pos n) f =
-    let h : n < 128 = f.sfits in
-    rw (lt-leb 253 n (omega arith)) (or-false (leb n 4))
-interval_test (negsuc n) f =
-    let h : n < 128 = f.sfits in
-    rw (lt-leb (256 - suc n) 4 (omega arith)) (leb_same 253 (256 - suc n) n 2 (λ g. omega arith) (λ g. omega arith))
-
 pub interval_low : (e : ℕ) → e % 8 < 5 → to_z w8 (e % 8) ≡ interval_of e
 interval_low e h = to_z_pos w8 (e % 8) (omega arith) ∙ sym (rw (lt-ltb _ _ h))
 
@@ -140,10 +133,3 @@ module _ (ws : List ℕ) (port : ℕ) (b c f : Bool) (e : ℕ) (eb : b ≡ is_po
     rw (sym eb ∙ not-false _ h, sym ec ∙ not-false _ g),
     rw (sym eb ∙ not-false _ h, sym ec ∙ not-false _ g) (ap (with ws port) (ev ∙ ap (λ (l : List ℕ). set l 1 e) ep)),
   )
-
--- from the octet to the number
-pub set_is : (ws : List ℕ) (port : ℕ) (k : ℤ) (e : ℕ) (r : Result (Unit {0}) Refusal) (vs : List ℕ) → SFits w8 k → e ≡ of_z w8 k
-    → (r ≡ set_by port (in_range e)) × (vs ≡ after_by ws port (in_range e) (e % 8)) → (r ≡ interval_set port k) × (vs ≡ interval_after ws port k)
-set_is ws port k e r vs f ee w =
-    let t : in_range e ≡ is_interval k = ap in_range ee ∙ interval_test k f in
-    (w.0 ∙ ap (set_by port) t, w.1 ∙ ap (λ (b : Bool). after_by ws port b (e % 8)) t ∙ ap (λ (n : ℕ). after_by ws port (is_interval k) (n % 8)) ee)

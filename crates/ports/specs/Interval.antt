@@ -1,5 +1,5 @@
 -- The announce interval as a setting (01, "Sender records": "an announce interval of 2^k seconds, k from -3 to 4 (0 unless set)").
-use Rattle.std.specs.Prelude.{ℕ, ◌-◌, ◌%◌, List, Bool, not, ◌&&◌, ◌||◌, leb, ltb, ℤ, pos, negsuc, set, Result, Ok, Err}
+use Rattle.std.specs.Prelude.{ℕ, ◌-◌, ◌%◌, List, Bool, not, ◌&&◌, leb, ltb, ℤ, pos, negsuc, set, Result, Ok, Err}
 use Rattle.std.specs.Int.{w8}
 use Rattle.std.proofs.Common.{of_z}
 use Rattle.refusal.specs.Choice.{pick, refuse}
@@ -12,10 +12,6 @@ use Rattle.refusal.specs.declared.Refusal.{Refusal}
 abbrev pub is_interval : ℤ → Bool
 is_interval (pos n) = leb n 4
 is_interval (negsuc n) = leb n 2
-
--- the same of its two's complement
-abbrev pub in_range : ℕ → Bool
-in_range e = leb e 4 || leb 253 e
 
 -- k modulo 8, and back
 abbrev pub exponent_of : ℤ → ℕ

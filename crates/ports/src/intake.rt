@@ -3,13 +3,10 @@
 // word changes; an Announce that is taken writes one record and one time.
 ghost use Rattle.std.specs.Prelude.{◌≡◌, ◌≤◌, length};
 ghost use Rattle.message.specs.Fields.{announce_of};
-ghost use Rattle.senders.specs.Port.{plan_of, outcome_of};
-ghost use Rattle.slots.specs.Words.{port_words, grade_word, words_after};
-ghost use Rattle.slots.specs.Words as held;
+ghost use Rattle.senders.specs.Port.{outcome_of};
+ghost use Rattle.slots.specs.Words.{grade_word};
 ghost use Rattle.ports.specs.Intake.{grandmaster_of, notice_of, judged_of, admitted_of, plan_at, state_after};
-ghost use Rattle.ports.specs.Words.{all_words};
 
-use identity::PortIdentity;
 use crate::WORDS;
 use message::announce::Heard;
 use rank::Grandmaster;
@@ -29,13 +26,9 @@ fn notice(h: Heard) -> Notice
     ensures { result ≡ notice_of h }
 {
     let header = h.header;
-    let source = header.source;
     let a = h.announce;
     Notice {
-        sender: PortIdentity {
-            clock: source.clock,
-            port: source.port,
-        },
+        sender: header.source,
         sequence: header.sequence,
         grandmaster: Grandmaster {
             priority1: a.priority1,
@@ -55,11 +48,10 @@ fn judge(h: Heard, set: Settings) -> Result<Notice, Refusal>
     ensures { result ≡ judged_of set h }
 {
     let header = h.header;
-    let source = header.source;
     if header.domain != set.domain {
         return Err(Refusal::Domain);
     }
-    if source.clock == set.clock {
+    if header.source.clock == set.clock {
         return Err(Refusal::Own);
     }
     Ok(notice(h))
@@ -72,11 +64,7 @@ fn admit(port: u8, s: &[u8], set: Settings) -> Result<Notice, Refusal>
     if !refusal::is_port(port) {
         return Err(Refusal::Port);
     }
-    let read = message::announce::read_announce(s, set.magic);
-    match read {
-        Err(x) => Err(x),
-        Ok(h) => judge(h, set),
-    }
+    judge(message::announce::read_announce(s, set.magic)?, set)
 }
 
 // The word of the quality in an Announce's octets: its keys stand there in their order, and stepsRemoved apart from them.
@@ -87,42 +75,22 @@ fn grade_at(s: &[u8]) -> u64
     octets::held::u48_at(s, 47) * 0x10000 + (octets::held::u16_at(s, 61) as u64)
 }
 
-// Takes a notice into the words of its port, or refuses it. What is only kept is read where it is written: read before the
+// Takes the Announce in `s` on a port at `t`, or refuses it. What is only kept is read where it is written: read before the
 // slots are searched, it would be put aside and fetched again.
-fn enter(ws: &mut [u64], t: u64, a: Notice, s: &[u8]) -> Result<(), Refusal>
-    requires ws_len { (length ws.old ≡ port_words) × (64 ≤ length s.now) }
-    requires grandmaster_value { (a.grandmaster ≡ grandmaster_of (announce_of s.now)) × (a.steps ≡ (announce_of s.now).steps) }
-    ensures { (result ≡ outcome_of (plan_of (held.port_of ws.old) t a)) × (ws.new ≡ words_after ws.old t (plan_of (held.port_of ws.old) t a)) }
-{
-    let p = slots::plan(ws, t, a);
-    match p {
-        Err(x) => Err(x),
-        Ok((i, r)) => {
-            let identity = octets::held::u64_at(s, 53);
-            let grade = grade_at(s);
-            slots::put(ws, i, t, r, identity, grade);
-            Ok(())
-        }
-    }
-}
-
-fn take_in(words: &mut [u64], port: u8, t: u64, s: &[u8], set: Settings) -> Result<(), Refusal>
-    requires { length words.old ≡ all_words }
+pub fn take(
+    words: &mut [u64; WORDS],
+    port: u8,
+    t: u64,
+    s: &[u8],
+    set: Settings,
+) -> Result<(), Refusal>
     ensures { (result ≡ outcome_of (plan_at set words.old port t s.now)) × (words.new ≡ state_after words.old port t (plan_at set words.old port t s.now)) }
 {
-    let admitted = admit(port, s, set);
-    match admitted {
-        Err(x) => Err(x),
-        Ok(a) => {
-            let b = crate::start(port);
-            enter(&mut words[b..b + slots::WORDS], t, a, s)
-        }
-    }
-}
-
-// Takes the Announce in `s` on a port at `t`, or refuses it.
-pub fn take(words: &mut [u64; WORDS], port: u8, t: u64, s: &[u8], set: Settings) -> Result<(), Refusal>
-    ensures { (result ≡ outcome_of (plan_at set words.old port t s.now)) × (words.new ≡ state_after words.old port t (plan_at set words.old port t s.now)) }
-{
-    take_in(&mut words[..], port, t, s, set)
+    let a = admit(port, s, set)?;
+    let (i, r) = slots::plan(crate::own(words, port), t, a)?;
+    let identity = octets::held::u64_at(s, 53);
+    let grade = grade_at(s);
+    let b = crate::start(port);
+    slots::put(&mut words[b..b + slots::WORDS], i, t, r, identity, grade);
+    Ok(())
 }

@@ -1,34 +1,33 @@
 // Candidates by their places: a place is where a record begins in the words of eighteen ports, and tells the port that keeps it.
 // Whoever compares many candidates keeps their places, and takes the few that are wanted out of the words.
-ghost use Rattle.std.specs.Prelude.{◌≡◌, true, ◌+◌, ◌/◌, ◌≤◌, ◌<◌, ltb, length};
+ghost use Rattle.std.specs.Prelude.{◌≡◌, true, ◌+◌, ◌/◌, ◌≤◌, ◌<◌, ltb};
 ghost use Rattle.rank.specs.Order.{earlier_of};
 ghost use Rattle.rank.specs.Ranked.{is_port};
 ghost use Rattle.ports.specs.Words.{port_at, all_words};
 ghost use Rattle.ports.specs.Places.{place_on, port_by, candidate_at};
 ghost use Rattle.slots.specs.Words.{port_words};
 
+use crate::WORDS;
 use rank::Candidate;
 
 // Whether `t` lies before the last accepted time of a port.
-pub fn is_late(words: &[u64], port: u8, t: u64) -> bool
-    requires { (length words.now ≡ all_words) × (is_port port ≡ true) }
+pub fn is_late(words: &[u64; WORDS], port: u8, t: u64) -> bool
+    requires { is_port port ≡ true }
     ensures { result ≡ ltb t (port_at words.now port).last }
 {
-    let b = crate::start(port);
-    t < slots::last(&words[b..b + slots::WORDS])
+    t < slots::last(crate::own(words, port))
 }
 
 // The place of a port's best candidate at `t`, or 0 where the port has none.
-pub fn place(words: &[u64], port: u8, t: u64) -> usize
-    requires { (length words.now ≡ all_words) × (is_port port ≡ true) }
+pub fn place(words: &[u64; WORDS], port: u8, t: u64) -> usize
+    requires { is_port port ≡ true }
     ensures { result ≡ place_on words.now port t }
 {
-    let b = crate::start(port);
-    let i = slots::place(&words[b..b + slots::WORDS], t);
+    let i = slots::place(crate::own(words, port), t);
     if i == 0 {
         return 0;
     }
-    b + i
+    crate::start(port) + i
 }
 
 // The port of a place: 669 / 2^16 is hardly more than 1/98, and a product by so small a number is shifts and sums.
@@ -40,8 +39,8 @@ pub fn port_of(at: usize) -> usize
 }
 
 // The candidate at a place.
-pub fn candidate(words: &[u64], at: usize) -> Candidate
-    requires { (length words.now ≡ all_words) × (at + 6 ≤ all_words) }
+pub fn candidate(words: &[u64; WORDS], at: usize) -> Candidate
+    requires { at + 6 ≤ all_words }
     ensures { result ≡ candidate_at words.now at }
 {
     let r = slots::read(&words[at..at + 6]);
@@ -50,8 +49,8 @@ pub fn candidate(words: &[u64], at: usize) -> Candidate
 }
 
 // Whether the candidate at `a` stands before that at `b`, which is one of a port with a lower number.
-pub fn is_before(words: &[u64], a: usize, b: usize) -> bool
-    requires { (length words.now ≡ all_words) × (a + 6 ≤ all_words) × (b + 6 ≤ all_words) × (b / port_words < a / port_words) }
+pub fn is_before(words: &[u64; WORDS], a: usize, b: usize) -> bool
+    requires { (a + 6 ≤ all_words) × (b + 6 ≤ all_words) × (b / port_words < a / port_words) }
     ensures { result ≡ earlier_of (candidate_at words.now a) (candidate_at words.now b) }
 {
     slots::comes_before(&words[a..a + 6], &words[b..b + 6])

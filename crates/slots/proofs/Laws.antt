@@ -3,12 +3,13 @@ use Rattle.std.specs.Prelude.{Result, Ok, Err}
 use mathlib.Core.Path.{◌≡◌, refl, ap, ◌∙◌, sym}
 use mathlib.Core.Bool.{Bool, true, false}
 use mathlib.Core.List.{List, [], ◌∷◌, ◌++◌, append_assoc}
-use Prim.Native.Nat.{ℕ, zero, suc, ◌+◌, ◌-◌, ◌≤◌, ◌<◌, zero-le, suc-le-suc}
+use Prim.Native.Nat.{ℕ, zero, suc, ◌+◌, ◌-◌, ◌*◌, ◌≤◌, ◌<◌, zero-le, suc-le-suc}
 use native.Mathlib.Nat.{le_of_suc-le-suc, not-suc-le-zero, add-sub_cancel_left}
 use native.Mathlib.Omega.{arith}
 use lib.ListN.{length, get_or, set, take, drop, length-append, length-take, length-drop, get_or-append}
 use lib.Seq.{drop-drop, length-take-le, drop_at, take_at, get_or-take, get_or-drop, ext_get_or}
 use borrow.Rule.Slice.PartMut.{put_mid, Post-is}
+use Rattle.std.specs.Simd.{first_chunks}
 use Rattle.senders.specs.declared.Record.{Record}
 use Rattle.senders.specs.Port.{tab, first, empty_slot, outcome_of}
 use Rattle.senders.proofs.First.{first_hit, first_none}
@@ -136,3 +137,13 @@ pub put : (ws : List ℕ) (t : ℕ) (q p : Result (ℕ × Record) Refusal) (i : 
 put ws t q p i r e f =
     let g : Ok (i, r) ≡ p = sym f ∙ e in
     (ap outcome_of g, ap (words_after ws t) g)
+
+-- ---- words as arrays, one behind the other
+pub chunk_at : {X : Type 0} (n k i : ℕ) (xs : List X) → i < k → get_or (first_chunks n k xs) i [] ≡ take n (drop (n * i) xs)
+chunk_at n zero i xs h = absurd (omega arith)
+chunk_at {X} n (suc k) zero xs h =
+    let e : 0 ≡ n * 0 = omega arith in
+    ap (λ (j : ℕ). take n (drop j xs)) e
+chunk_at {X} n (suc k) (suc i) xs h =
+    let e : n + n * i ≡ n * suc i = omega arith in
+    chunk_at n k i (drop n xs) (omega arith) ∙ ap (take n) (drop-drop (n * i) n xs ∙ ap (λ (j : ℕ). drop j xs) e)

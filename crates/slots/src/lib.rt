@@ -94,8 +94,8 @@ fn load(ws: &[u64; WORDS], i: usize) -> Record
 }
 
 // Slot `i` holds the record afterwards, and no other word changes.
-fn store(ws: &mut [u64; WORDS], i: usize, r: Record, identity: u64, grade: u64)
-    requires inside { i < 16 }
+fn store(ws: &mut [u64], i: usize, r: Record, identity: u64, grade: u64)
+    requires ws_len { (length ws.old ≡ port_words) × (i < 16) }
     requires identity_value { (identity ≡ r.notice.grandmaster.identity) × (grade ≡ grade_word r.notice.grandmaster r.notice.steps) }
     ensures { ws.new ≡ put_slot ws.old i r }
 {
@@ -160,8 +160,8 @@ pub fn plan(ws: &[u64; WORDS], t: u64, a: Notice) -> Result<(usize, Record), Ref
 
 // Carries out a plan that puts a record into slot `i`: the record and the time are written. The grandmaster and the word of its
 // quality are handed on by the caller, who reads them where they are kept and not before the slots are searched.
-pub fn put(ws: &mut [u64; WORDS], i: usize, t: u64, r: Record, identity: u64, grade: u64)
-    requires inside { i < 16 }
+pub fn put(ws: &mut [u64], i: usize, t: u64, r: Record, identity: u64, grade: u64)
+    requires ws_len { (length ws.old ≡ port_words) × (i < 16) }
     requires identity_value { (identity ≡ r.notice.grandmaster.identity) × (grade ≡ grade_word r.notice.grandmaster r.notice.steps) }
     ensures { ws.new ≡ words_after ws.old t (Ok (i, r)) }
 {
@@ -331,7 +331,8 @@ pub fn exponent(ws: &[u64; WORDS]) -> u64
 }
 
 // Sets the interval's exponent, modulo 8.
-pub fn set_exponent(ws: &mut [u64; WORDS], e: u64)
+pub fn set_exponent(ws: &mut [u64], e: u64)
+    requires { length ws.old ≡ port_words }
     ensures { ws.new ≡ set ws.old 1 e }
 {
     ws[1] = e;

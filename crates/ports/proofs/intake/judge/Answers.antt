@@ -10,12 +10,12 @@ unfolding refuse
 returns-then-header-set c =
     rw (ne_eqb _ _ c.if-header-set.true)
 
-pub returns-then-source-set : goal.returns-then-source-set
+pub returns-then-header-set-2 : goal.returns-then-header-set-2
 unfolding refuse
-returns-then-source-set c =
-    rw (eq-eqb _ _ c.if-header-set.false, eq-eqb _ _ c.if-source-set.true)
+returns-then-header-set-2 c =
+    rw (eq-eqb _ _ c.if-header-set.false, eq-eqb _ _ c.if-header-set-2.true)
 
 pub returns : goal.returns
 unfolding refuse
 returns c =
-    rw (eq-eqb _ _ c.if-header-set.false, ne_eqb _ _ c.if-source-set.false) (ap Ok c.notice.ensures)
+    rw (eq-eqb _ _ c.if-header-set.false, ne_eqb _ _ c.if-header-set-2.false) (ap Ok c.notice.ensures)

@@ -16,4 +16,4 @@ returns c =
     c.comes_before.ensures
     ∙ ap (λ (l : List ℕ). above_in l (take (g.b + 6 - g.b) (drop g.b ws))) (lent ws g.a 6)
     ∙ ap (above_in (block ws g.a 6)) (lent ws g.b 6)
-    ∙ before_is ws g.a g.b (λ i. (c.type_inv.words i).fits) c.requires.3
+    ∙ before_is ws g.a g.b c.fits-words c.requires.2
