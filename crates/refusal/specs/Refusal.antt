@@ -32,26 +32,7 @@ number_of Export = 22
 abbrev pub place_of : Refusal → ℕ
 place_of (Tlv p) = p
 place_of (WrBad p) = p
-place_of Short = 0
-place_of Version = 0
-place_of «Type» = 0
-place_of Length = 0
-place_of Stamp = 0
-place_of Port = 0
-place_of Domain = 0
-place_of Own = 0
-place_of Backward = 0
-place_of Stale = 0
-place_of Full = 0
-place_of Range = 0
-place_of Unranked = 0
-place_of Room = 0
-place_of Many = 0
-place_of Field = 0
-place_of Long = 0
-place_of Block = 0
-place_of Pcap = 0
-place_of Export = 0
+place_of _ = 0
 
 -- a number with a place: the number in the low eight bits, the place above them
 abbrev pub placed : ℕ → ℕ → ℕ

@@ -12,14 +12,14 @@ pub const PORTS: usize = 18;
 pub fn is_port(p: u8) -> bool
     ensures { result ≡ is_port p }
 {
-    (1 <= p) & (p <= PORTS as u8)
+    (1..=PORTS as u8).contains(&p)
 }
 
 // The nanoseconds of a second.
 pub const SECOND_NANOS: u32 = 1_000_000_000;
 
 // The table's twenty-two rows, by the names it gives them. What refuses a TLV says where in the message it stands.
-#[derive(Clone, Copy)]
+#[derive(Clone, Copy, PartialEq, Eq, Debug)]
 pub enum Refusal {
     Short,
     Version,
@@ -80,28 +80,8 @@ fn place(x: Refusal) -> u16
     ensures { result ≡ place_of x }
 {
     match x {
-        Refusal::Tlv(at) => at,
-        Refusal::WrBad(at) => at,
-        Refusal::Short => 0,
-        Refusal::Version => 0,
-        Refusal::Type => 0,
-        Refusal::Length => 0,
-        Refusal::Stamp => 0,
-        Refusal::Port => 0,
-        Refusal::Domain => 0,
-        Refusal::Own => 0,
-        Refusal::Backward => 0,
-        Refusal::Stale => 0,
-        Refusal::Full => 0,
-        Refusal::Range => 0,
-        Refusal::Unranked => 0,
-        Refusal::Room => 0,
-        Refusal::Many => 0,
-        Refusal::Field => 0,
-        Refusal::Long => 0,
-        Refusal::Block => 0,
-        Refusal::Pcap => 0,
-        Refusal::Export => 0,
+        Refusal::Tlv(at) | Refusal::WrBad(at) => at,
+        _ => 0,
     }
 }
 
