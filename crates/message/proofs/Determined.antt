@@ -17,6 +17,9 @@ fields_header_of_determined κs a x y v w p q = (p ∙ sym q, refl)
 pub fields_announce_of_determined : Fixes contracts.fields.announce_of.ended its.fields.announce_of.Reads.Post
 fields_announce_of_determined κs a x y v w p q = (p ∙ sym q, refl)
 
+pub reading_head_determined : Fixes contracts.reading.head.ended its.reading.head.Reads.Post
+reading_head_determined κs a x y v w p q = (p ∙ sym q, refl)
+
 pub reading_check_determined : Fixes contracts.reading.check.ended its.reading.check.Reads.Post
 reading_check_determined κs a x y v w p q = (p ∙ sym q, refl)
 

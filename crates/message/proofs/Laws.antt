@@ -1,26 +1,27 @@
 -- What an accepted message says of the octets lent, one of the type that a call takes, and the bounds of the fixed sizes.
 use Rattle.std.specs.Prelude.{Result, Ok, Err}
 use Prim.Native.Nat.{ℕ, ◌+◌, ◌-◌, ◌<◌, ◌≤◌}
-use mathlib.Core.Path.{◌≡◌, refl, sym}
+use mathlib.Core.Path.{◌≡◌, refl, sym, ap}
 use mathlib.Core.List.{List, []}
 use mathlib.Core.Bool.{Bool, true, false, not}
 use native.Mathlib.Omega.{arith}
-use borrow.Author.Tests.{ltb-false, eqb-true, eqb-false, not-false}
-use lib.Dec.{eqb}
+use borrow.Author.Tests.{le-ltb, ltb-false, eq-eqb, ne_eqb, eqb-true, eqb-false, not-false}
+use lib.Dec.{eqb, ltb}
 use lib.ListN.{length, take, drop, length-take, length-drop}
 use Rattle.refusal.specs.Choice.{pick, refuse}
 use Rattle.refusal.proofs.Choice.{passed}
 pub use Rattle.refusal.proofs.Choice.{no_refusal}
 use Rattle.refusal.specs.declared.Refusal.{Refusal}
-use Rattle.refusal.specs.declared.Refusal.TheVariants.{«Type»}
+use Rattle.refusal.specs.declared.Refusal.TheVariants.{Short, Version, «Type», Length, Stamp}
 use Rattle.tlv.specs.Walk.{walk_by, walk}
 use Rattle.tlv.specs.Faults.{fault_of, is_fault}
 use Rattle.tlv.specs.declared.walk.Fault.{Fault}
 use Rattle.tlv.specs.declared.walk.Fault.TheVariants.{Broken, Misfit}
 use Rattle.tlv.proofs.FaultLaws.{break_inside, misfit_inside}
 use Rattle.message.specs.Fields.{type_of, version_of, length_of, fixed_size, tail_of}
-use Rattle.message.specs.Reading.{bad_stamp, IsPlaced, fault_check, check_of, by, takes_of}
-use Rattle.message.specs.Reading.{Bounded}
+use Rattle.message.specs.Reading.{bad_stamp, IsPlaced, fault_check, headed, bounds_at, head_of, check_of, by, takes_of, Bounded}
+use Rattle.message.specs.When.{IsStamped}
+use Rattle.message.specs.declared.reading.Bounds.{Bounds}
 
 -- `fixed_size`, by its six tests
 abbrev size_by : (a b c d e f : Bool) → ℕ
@@ -85,6 +86,61 @@ told_fault size (Err (Misfit p)) e = refl
 -- and one that is not has none
 pub told_sound : (size : ℕ) (x : Result (Unit {0}) Fault) → fault_check size x ≡ Ok tt → is_fault x ≡ false
 told_sound size x e = rw (no_fault size x e)
+
+no_bounds : {x : Refusal} {b : Bounds} → ◌≡◌ {A = Result Bounds Refusal} (Err x) (Ok b) → ⊥
+no_bounds e = let z : ◌≡◌ {A = ℕ} 0 1 = cc in omega arith
+
+-- what one of six checks refuses, or what comes after them
+abbrev by_tests : {B : Type 0} → (Refusal → B) → B → (a b c d e f : Bool) → B
+by_tests told end a b c d e f =
+    refuse a (told Short) (refuse b (told Version) (refuse c (told «Type») (refuse d (told Length) (refuse e (told Short) (refuse f (told Stamp) end)))))
+
+same_refusal : {y z : Refusal} → ◌≡◌ {A = Result Bounds Refusal} (Err y) (Err z) → y ≡ z
+same_refusal e = cc
+
+refused_alike : {A : Type 0} (refused : Refusal → A) (rest : A) (n : Bounds) {x : Refusal} (a b c d e f : Bool)
+    → by_tests {B = Result Bounds Refusal} Err (Ok n) a b c d e f ≡ Err x → by_tests refused rest a b c d e f ≡ refused x
+unfolding refuse
+refused_alike refused rest n true b c d e f h = ap refused (same_refusal h)
+refused_alike refused rest n false true c d e f h = ap refused (same_refusal h)
+refused_alike refused rest n false false true d e f h = ap refused (same_refusal h)
+refused_alike refused rest n false false false true e f h = ap refused (same_refusal h)
+refused_alike refused rest n false false false false true f h = ap refused (same_refusal h)
+refused_alike refused rest n false false false false false true h = ap refused (same_refusal h)
+refused_alike refused rest n false false false false false false h = absurd (no_bounds (sym h))
+
+-- the checks before the tail's, whatever comes after them
+module _ (s : List ℕ) where
+  -- lengths that are told are those of octets that pass them
+  pub head_passed : {b : Bounds} → head_of s ≡ Ok b → IsStamped s × (b ≡ bounds_at s)
+  unfolding head_of
+  head_passed {b} e =
+      let p1 = passed _ _ _ _ no_bounds e in
+      let p2 = passed _ _ _ _ no_bounds p1.1 in
+      let p3 = passed _ _ _ _ no_bounds p2.1 in
+      let p4 = passed _ _ _ _ no_bounds p3.1 in
+      let p5 = passed _ _ _ _ no_bounds p4.1 in
+      let p6 = passed _ _ _ _ no_bounds p5.1 in
+      let k : ◌≡◌ {A = Result Bounds Refusal} (Ok (bounds_at s)) (Ok b) = p6.1 in
+      (((((((ltb-false _ _ p1.0, eqb-true _ _ (not-false _ p2.0)), eqb-false _ _ p3.0), ltb-false _ _ p4.0), ltb-false _ _ p5.0), p6.0), cc))
+
+  module _ {A : Type 0} (refused : Refusal → A) (rest : A) where
+    -- passed, they leave what comes after them
+    pub headed_passed : IsStamped s → headed refused rest s ≡ rest
+    unfolding refuse
+    headed_passed p =
+        rw (le-ltb _ _ p.0.0.0.0.0, eq-eqb _ _ p.0.0.0.0.1, ne_eqb _ _ p.0.0.0.1, le-ltb _ _ p.0.0.1, le-ltb _ _ p.0.1, p.1)
+
+    -- and else they refuse alike
+    pub headed_refused : {x : Refusal} → head_of s ≡ Err x → headed refused rest s ≡ refused x
+    unfolding head_of refuse
+    headed_refused {x} =
+        refused_alike refused rest (bounds_at s) (ltb (length s) 34) (not (eqb (version_of s) 2)) (eqb (fixed_size (type_of s)) 0) (ltb (length_of s) (fixed_size (type_of s)))
+        (ltb (length s) (length_of s)) (bad_stamp (type_of s) s)
+
+-- the part between the lengths told is the tail
+pub part_tail : (s : List ℕ) {b : Bounds} → b ≡ bounds_at s → take (b.length - b.size) (drop b.size s) ≡ tail_of s
+part_tail s e = λ i. take ((e i).length - (e i).size) (drop (e i).size s)
 
 -- all the checks are passed
 pub record Accepted (magic : ℕ) (s : List ℕ) : Type 0 where

@@ -1,5 +1,5 @@
 -- An Announce as those take it who choose a parent: header, body, and the wrFlags of its suffix (01, "Octets of a message").
-use Rattle.std.specs.Prelude.{ℕ, List, not, eqb, ltb, length, Result, Ok, Err}
+use Rattle.std.specs.Prelude.{ℕ, List, not, eqb, ltb, length, Option, Some, None, Result, Ok, Err}
 use Rattle.refusal.specs.Choice.{refuse}
 use Rattle.refusal.specs.declared.Refusal.{Refusal}
 use Rattle.refusal.specs.declared.Refusal.TheVariants.{«Type»}
@@ -21,12 +21,12 @@ refusal_of magic s = by (check_of magic s) (λ x. x) «Type»
 
 -- ---- WHAT ONLY THE CODE NEEDS: steps on the way to the answers above, and no rule of 01
 
--- messageLength of octets that are an Announce as far as version, type and lengths go, 0 of any others
-unfoldable pub announce_length : List ℕ → ℕ
+-- messageLength of octets that are an Announce as far as version, type and lengths go
+unfoldable pub announce_length : List ℕ → Option ℕ
 announce_length s =
-    refuse (ltb (length s) 64) 0
-    (refuse (not (eqb (version_of s) 2)) 0
-    (refuse (not (eqb (type_of s) 0xB)) 0
-    (refuse (ltb (length_of s) 64) 0
-    (refuse (ltb (length s) (length_of s)) 0
-    (length_of s)))))
+    refuse (ltb (length s) 64) None
+    (refuse (not (eqb (version_of s) 2)) None
+    (refuse (not (eqb (type_of s) 0xB)) None
+    (refuse (ltb (length_of s) 64) None
+    (refuse (ltb (length s) (length_of s)) None
+    (Some (length_of s))))))

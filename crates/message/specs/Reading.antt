@@ -10,6 +10,7 @@ use Rattle.tlv.specs.declared.walk.Fault.{Fault}
 use Rattle.tlv.specs.declared.walk.Fault.TheVariants as fault
 use Rattle.message.specs.Fields.{type_of, version_of, length_of, fixed_size, message_of, tail_of}
 use Rattle.message.specs.declared.fields.Message.{Message}
+use Rattle.message.specs.declared.reading.Bounds.{Bounds}
 
 -- "a timestamp's nanoseconds are 1,000,000,000 or more"; a Signaling has none
 abbrev pub bad_stamp : ℕ → List ℕ → Bool
@@ -33,6 +34,14 @@ headed refused rest s =
     (refuse (ltb (length s) (length_of s)) (refused Short)
     (refuse (bad_stamp (type_of s) s) (refused Stamp)
     rest)))))
+
+-- the fixed size and messageLength
+abbrev pub bounds_at : List ℕ → Bounds
+bounds_at s = record { size = fixed_size (type_of s); length = length_of s }
+
+-- those of octets that pass the checks before the tail's
+unfoldable pub head_of : List ℕ → Result Bounds Refusal
+head_of s = headed Err (Ok (bounds_at s)) s
 
 -- "6, 7"
 unfoldable pub check_of : ℕ → List ℕ → Result (Unit {0}) Refusal

@@ -1,21 +1,25 @@
 // The checks of reading.
-ghost use Rattle.std.specs.Prelude.{◌≡◌, ◌+◌, ◌≤◌, ◌<◌, length};
+ghost use Rattle.std.specs.Prelude.{◌≡◌, ◌+◌, ◌≤◌, ◌<◌, length, Err};
 ghost use Rattle.tlv.specs.Faults.{fault_of};
-ghost use Rattle.message.specs.Reading.{bad_stamp, IsPlaced, fault_check, check_of, takes_of};
+ghost use Rattle.message.specs.Reading.{bad_stamp, IsPlaced, fault_check, head_of, check_of, takes_of};
 
-use crate::fields::{Message, SIGNALING};
+use crate::fields::SIGNALING;
 use refusal::Refusal;
 use tlv::walk::Fault;
+
+// Where the tail of a message begins, and where the message ends.
+#[derive(Clone, Copy)]
+pub struct Bounds {
+    pub size: usize,
+    pub length: usize,
+}
 
 // Whether the octets carry a timestamp of 10^9 nanoseconds or more. A Signaling has an identity in that place.
 pub fn bad_stamp(s: &[u8], kind: u8) -> bool
     requires { 44 ≤ length s.now }
     ensures { result ≡ bad_stamp kind s.now }
 {
-    if kind == SIGNALING {
-        return false;
-    }
-    octets::held::u32_at(s, 40) >= refusal::SECOND_NANOS
+    kind != SIGNALING && octets::held::u32_at(s, 40) >= refusal::SECOND_NANOS
 }
 
 // A place in the tail as one in the message, whose fixed part has `size` octets.
@@ -27,14 +31,13 @@ pub fn place_in(size: usize, p: usize) -> u16
 }
 
 // What a fault of the tail refuses, with its place in the message.
-fn fault_check(size: usize, x: Result<(), Fault>) -> Result<(), Refusal>
-    requires { IsPlaced size x }
-    ensures { result ≡ fault_check size x }
+fn refused(size: usize, x: Fault) -> Refusal
+    requires { IsPlaced size (Err x) }
+    ensures { Err result ≡ fault_check size (Err x) }
 {
     match x {
-        Ok(()) => Ok(()),
-        Err(Fault::Broken(p)) => Err(Refusal::Tlv(place_in(size, p))),
-        Err(Fault::Misfit(p)) => Err(Refusal::WrBad(place_in(size, p))),
+        Fault::Broken(p) => Refusal::Tlv(place_in(size, p)),
+        Fault::Misfit(p) => Refusal::WrBad(place_in(size, p)),
     }
 }
 
@@ -43,12 +46,12 @@ pub fn tail_check(t: &[u8], size: usize, magic: u16) -> Result<(), Refusal>
     requires { size + length t.now < 65536 }
     ensures { result ≡ fault_check size (fault_of magic t.now) }
 {
-    fault_check(size, tlv::walk::first_fault(t, magic))
+    tlv::walk::first_fault(t, magic).map_err(|x| refused(size, x))
 }
 
-// The checks: under 34 octets, 2, 3, 4, messageLength, 5, then the tail's 6 and 7.
-pub fn check(s: &[u8], magic: u16) -> Result<(), Refusal>
-    ensures { result ≡ check_of magic s.now }
+// The checks before the tail's: under 34 octets, 2, 3, 4, messageLength, 5.
+pub fn head(s: &[u8]) -> Result<Bounds, Refusal>
+    ensures { result ≡ head_of s.now }
 {
     if s.len() < 34 {
         return Err(Refusal::Short);
@@ -71,25 +74,28 @@ pub fn check(s: &[u8], magic: u16) -> Result<(), Refusal>
     if bad_stamp(s, kind) {
         return Err(Refusal::Stamp);
     }
-    if length == size {
+    Ok(Bounds { size, length })
+}
+
+// All the checks: those before the tail's, then the tail's 6 and 7.
+pub fn check(s: &[u8], magic: u16) -> Result<(), Refusal>
+    ensures { result ≡ check_of magic s.now }
+{
+    let b = head(s)?;
+    if b.length == b.size {
         return Ok(());
     }
-    let tail = &s[size..length];
-    tail_check(tail, size, magic)
+    tail_check(&s[b.size..b.length], b.size, magic)
 }
 
 // The checks of a call that takes messages of one type: those of reading, then 3 if it is another message.
 pub fn takes(s: &[u8], kind: u8, magic: u16) -> Result<(), Refusal>
     ensures { result ≡ takes_of magic kind s.now }
 {
-    match check(s, magic) {
-        Err(x) => Err(x),
-        Ok(()) => {
-            if s[0] % 16 == kind {
-                Ok(())
-            } else {
-                Err(Refusal::Type)
-            }
-        }
+    check(s, magic)?;
+    if s[0] % 16 == kind {
+        Ok(())
+    } else {
+        Err(Refusal::Type)
     }
 }

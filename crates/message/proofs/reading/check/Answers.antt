@@ -1,93 +1,53 @@
--- `reading::check` meets its contract: at each way out the tests before it are known.
-use Prim.Native.Nat.{◌-◌}
-use mathlib.Core.Bool.{not}
-use mathlib.Core.Path.{◌≡◌, refl, sym, ap, ◌∙◌}
+-- `reading::check` meets its contract: the checks before the tail's, then the tail's.
+use Rattle.std.specs.Prelude.{Err}
+use Prim.Native.Nat.{◌^◌, ◌<◌, ◌-◌}
+use mathlib.Core.Path.{◌≡◌, sym, ap, ◌∙◌}
 use native.Mathlib.Omega.{arith}
-use borrow.Author.Tests.{lt-ltb, le-ltb, eq-eqb, ne_eqb}
-use Rattle.refusal.proofs.Choice.{stops, passes}
-use Rattle.message.specs.Fields.{type_of, fixed_size, tail_of}
+use Rattle.octets.specs.Be.{be}
+use Rattle.octets.proofs.Laws.{be_below}
+use Rattle.std.proofs.Common.{rules}
 use Rattle.tlv.specs.Faults.{fault_of}
 use Rattle.message.specs.Reading.{fault_check, check_of}
-use Rattle.message.proofs.Laws.{size_least, no_tail}
+use Rattle.message.specs.declared.reading.Bounds.{Bounds}
+use Rattle.message.proofs.Laws.{head_passed, headed_passed, headed_refused, part_tail, part_short, no_tail}
 use Rattle.message.proofs.reading.check.Goals as goal
 
-pub returns-then-s-lt34 : goal.returns-then-s-lt34
+pub returns-in_err-b : goal.returns-in_err-b
 unfolding check_of
-returns-then-s-lt34 c =
-    stops _ (lt-ltb _ _ c.if-s-lt34.true)
+returns-in_err-b c =
+    rw (headed_refused _ Err _ (sym c.head.ensures ∙ c.in_err-b.was)) (search rules)
 
-pub returns-then-s-ne2 : goal.returns-then-s-ne2
+pub returns-then-b : goal.returns-then-b
 unfolding check_of
-returns-then-s-ne2 c =
-    passes _ (le-ltb _ _ c.if-s-lt34.false) (stops _ (ap not (ne_eqb _ _ c.if-s-ne2.true)))
+returns-then-b c =
+    let t = head_passed _ (sym c.head.ensures ∙ c.in_ok-b.was) in
+    let z : c.in_ok-b.b.length - c.in_ok-b.b.size ≡ 0 = omega arith in
+    rw (headed_passed _ Err _ t.0, ← part_tail _ t.1, z, no_tail)
 
-pub returns-then-size-eq0 : goal.returns-then-size-eq0
-unfolding check_of
-returns-then-size-eq0 c =
-    passes _ (le-ltb _ _ c.if-s-lt34.false)
-    (passes _ (ap not (eq-eqb _ _ c.if-s-ne2.false))
-    (stops _ (rw (← c.fixed_size-size.ensures) (eq-eqb _ _ c.if-size-eq0.true))))
+pub slice_bounds-tail_check-count : goal.slice_bounds-tail_check-count
+slice_bounds-tail_check-count c =
+    let t = head_passed _ (sym c.head.ensures ∙ c.in_ok-b.was) in rw t.1 t.0.0.0.1
 
-pub returns-then-length-size : goal.returns-then-length-size
-unfolding check_of
-returns-then-length-size c =
-    passes _ (le-ltb _ _ c.if-s-lt34.false)
-    (passes _ (ap not (eq-eqb _ _ c.if-s-ne2.false))
-    (passes _ (rw (← c.fixed_size-size.ensures) (ne_eqb _ _ c.if-size-eq0.false))
-    (stops _ (rw (← c.fixed_size-size.ensures, ← c.u16_at-length.ensures) (lt-ltb _ _ c.if-length-size.true)))))
+pub slice_bounds-tail_check-start : goal.slice_bounds-tail_check-start
+slice_bounds-tail_check-start c =
+    let t = head_passed _ (sym c.head.ensures ∙ c.in_ok-b.was) in rw t.1 t.0.0.0.1
 
-pub returns-then-s-length : goal.returns-then-s-length
-unfolding check_of
-returns-then-s-length c =
-    passes _ (le-ltb _ _ c.if-s-lt34.false)
-    (passes _ (ap not (eq-eqb _ _ c.if-s-ne2.false))
-    (passes _ (rw (← c.fixed_size-size.ensures) (ne_eqb _ _ c.if-size-eq0.false))
-    (passes _ (rw (← c.fixed_size-size.ensures, ← c.u16_at-length.ensures) (le-ltb _ _ c.if-length-size.false))
-    (stops _ (rw (← c.u16_at-length.ensures) (lt-ltb _ _ c.if-s-length.true))))))
+pub slice_bounds-tail_check-end : goal.slice_bounds-tail_check-end
+slice_bounds-tail_check-end c =
+    let t = head_passed _ (sym c.head.ensures ∙ c.in_ok-b.was) in rw t.1 t.0.0.1
 
-pub bad_stamp-requires : goal.bad_stamp-requires
-bad_stamp-requires c =
-    let h = size_least _ (rw c.fixed_size-size.ensures at c.if-size-eq0.false) in
-    omega (arith, h, c.fixed_size-size.ensures)
-
-pub returns-then-bad_stamp : goal.returns-then-bad_stamp
-unfolding check_of
-returns-then-bad_stamp c =
-    passes _ (le-ltb _ _ c.if-s-lt34.false)
-    (passes _ (ap not (eq-eqb _ _ c.if-s-ne2.false))
-    (passes _ (rw (← c.fixed_size-size.ensures) (ne_eqb _ _ c.if-size-eq0.false))
-    (passes _ (rw (← c.fixed_size-size.ensures, ← c.u16_at-length.ensures) (le-ltb _ _ c.if-length-size.false))
-    (passes _ (rw (← c.u16_at-length.ensures) (le-ltb _ _ c.if-s-length.false))
-    (stops _ (sym c.bad_stamp.ensures ∙ c.if-bad_stamp.true))))))
-
-pub returns-then-length-size-2 : goal.returns-then-length-size-2
-unfolding check_of
-returns-then-length-size-2 c =
-    let z : c.u16_at-length.result - c.fixed_size-size.result ≡ 0 = omega arith in
-    rw (
-      ← (let it : let s = c.args in fault_check (fixed_size (type_of s.s.now)) (fault_of s.magic (tail_of s.s.now)) ≡ check_of s.magic s.s.now = passes _ (le-ltb _ _ c.if-s-lt34.false)
-          (passes _ (ap not (eq-eqb _ _ c.if-s-ne2.false))
-          (passes _ (rw (← c.fixed_size-size.ensures) (ne_eqb _ _ c.if-size-eq0.false))
-          (passes _ (rw (← c.fixed_size-size.ensures, ← c.u16_at-length.ensures) (le-ltb _ _ c.if-length-size.false))
-          (passes _ (rw (← c.u16_at-length.ensures) (le-ltb _ _ c.if-s-length.false))
-          (passes _ (sym c.bad_stamp.ensures ∙ c.if-bad_stamp.false)
-          refl))))) in it),
-      ← c.fixed_size-size.ensures,
-      ← c.u16_at-length.ensures,
-      z,
-    ) (ap (fault_check _) (sym (no_tail _)))
+pub tail_check-requires : goal.tail_check-requires
+tail_check-requires c =
+    let s = c.args.s.now in
+    let l : be 2 s 2 < 256 ^ 2 = be_below 2 {n = 2} s 2 (omega arith) (λ j. (c.type_inv.s j).fits) in
+    let t = head_passed _ (sym c.head.ensures ∙ c.in_ok-b.was) in
+    rw t.1 (part_short _ _ _ t.0.0.0.1 l)
 
 pub returns : goal.returns
 unfolding check_of
 returns c =
-    rw (
-      ← (let it : let s = c.args in fault_check (fixed_size (type_of s.s.now)) (fault_of s.magic (tail_of s.s.now)) ≡ check_of s.magic s.s.now = passes _ (le-ltb _ _ c.if-s-lt34.false)
-          (passes _ (ap not (eq-eqb _ _ c.if-s-ne2.false))
-          (passes _ (rw (← c.fixed_size-size.ensures) (ne_eqb _ _ c.if-size-eq0.false))
-          (passes _ (rw (← c.fixed_size-size.ensures, ← c.u16_at-length.ensures) (le-ltb _ _ c.if-length-size.false))
-          (passes _ (rw (← c.u16_at-length.ensures) (le-ltb _ _ c.if-s-length.false))
-          (passes _ (sym c.bad_stamp.ensures ∙ c.if-bad_stamp.false)
-          refl))))) in it),
-      ← c.fixed_size-size.ensures,
-      ← c.u16_at-length.ensures,
-    ) c.tail_check.ensures
+    let t = head_passed _ (sym c.head.ensures ∙ c.in_ok-b.was) in
+    let z = ap (λ (b : Bounds). b.size) t.1 in
+    c.tail_check.ensures
+    ∙ (λ i. fault_check (z i) (fault_of c.args.magic (part_tail _ t.1 i)))
+    ∙ sym (headed_passed _ Err _ t.0)
