@@ -12,7 +12,7 @@ use Rattle.refusal.specs.Refusal.{code_of}
 use Rattle.tlv.specs.Wr.{suffix_in, link_in}
 use Rattle.message.specs.Fields.{type_of, fixed_size, tail_of}
 use Rattle.message.specs.Reading.{check_of}
-use Rattle.contents.specs.Parts.{first_of_type, lookup_of, suffix_answer, suffix_of, link_answer, link_of}
+use Rattle.contents.specs.Parts.{first_of_type, lookup_of, suffix_of, link_of}
 use Rattle.message.specs.When.{When, TakesWhen}
 use Rattle.contents.specs.Answers.{tlv_code, suffix_code, link_code}
 use Rattle.message.proofs.Exactly.{told, when_told, by_code, takes_told, when_takes}
@@ -37,7 +37,7 @@ module _ (magic : ℕ) (s : List ℕ) where
   when_lookup kind w = lookup_code kind ∙ when_told magic s w
 
   -- the suffix: 3 where the message is no Announce
-  suffix_zero : (x : Option ℕ) → suffix_code (suffix_answer x) ≡ 0
+  suffix_zero : (x : Option ℕ) → suffix_code (Ok x) ≡ 0
   suffix_zero (Some n) = refl
   suffix_zero None = refl
 
@@ -50,7 +50,7 @@ module _ (magic : ℕ) (s : List ℕ) where
   when_suffix w = when_takes suffix_code Err (λ x. refl) magic 0xB s _ (suffix_zero (suffix_in magic (tail_of s))) w
 
   -- the link message: 3 where the message is no Signaling
-  link_zero : (x : Option LinkMessage) → link_code (link_answer x) ≡ 0
+  link_zero : (x : Option LinkMessage) → link_code (Ok x) ≡ 0
   link_zero (Some m) = refl
   link_zero None = refl
 

@@ -13,7 +13,7 @@ use Rattle.tlv.specs.Wr.{suffix_in, link_in}
 use Rattle.tlv.specs.Walk.{data_at}
 use Rattle.message.specs.Fields.{fixed_size}
 use Rattle.contents.specs.Tlvs.{standing, next_in}
-use Rattle.contents.specs.Parts.{first_of_type, tail_in, data_in, lookup_of, suffix_answer, suffix_of, link_answer, link_of}
+use Rattle.contents.specs.Parts.{first_of_type, tail_in, data_in, lookup_of, suffix_of, link_of}
 use Rattle.message.specs.Ignored.{Alike}
 use Rattle.message.proofs.Ignored.{type_same, headed_same, accepted_tail, by_same}
 
@@ -51,7 +51,7 @@ module _ (a b : List ℕ) (s : Alike a b) (magic : ℕ) where
       by_same a b s magic Err
       (λ e.
       let t = accepted_tail a b s magic e in
-      λ i. refuse (not (eqb (type_same a b s i) 0xB)) (Err «Type») (suffix_answer (suffix_in magic (t i))))
+      λ i. refuse (not (eqb (type_same a b s i) 0xB)) (Err «Type») (Ok (suffix_in magic (t i))))
 
   -- the link message,
   pub link_same : link_of magic a ≡ link_of magic b
@@ -60,4 +60,4 @@ module _ (a b : List ℕ) (s : Alike a b) (magic : ℕ) where
       by_same a b s magic Err
       (λ e.
       let t = accepted_tail a b s magic e in
-      λ i. refuse (not (eqb (type_same a b s i) 0xC)) (Err «Type») (link_answer (link_in magic (t i))))
+      λ i. refuse (not (eqb (type_same a b s i) 0xC)) (Err «Type») (Ok (link_in magic (t i))))

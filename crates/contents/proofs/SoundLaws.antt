@@ -1,80 +1,73 @@
 -- The lengths that a reader is told which hopes that nothing is wrong, and what the checks say where there are none.
-use Rattle.std.specs.Prelude.{None, Result, Ok, Err}
-use Prim.Native.Nat.{ℕ, ◌-◌}
+use Rattle.std.specs.Prelude.{Option, Some, None, Result, Ok, Err}
+use Rattle.std.specs.Result.{result_ok}
+use Prim.Native.Nat.{ℕ}
 use mathlib.Core.Path.{◌≡◌, refl, sym, ap, ◌∙◌}
 use mathlib.Core.List.{List}
-use borrow.Author.Tests.{le-ltb, ltb-false, eq-eqb, ne_eqb, eqb-true, eqb-false, not-false}
-use lib.ListN.{take, drop}
-use Rattle.refusal.specs.Choice.{refuse}
-use Rattle.refusal.proofs.Choice.{passed}
-use Rattle.message.specs.Fields.{tail_of}
-use Rattle.message.specs.Reading.{check_of, by}
-use Rattle.contents.specs.Parts.{lookup_of}
-use Rattle.contents.specs.Sound.{no_bounds, bounds_at, fixed_bounds, sound_bounds}
+use native.Mathlib.Omega.{arith}
+use Rattle.message.specs.Reading.{bounds_at, head_of, check_of, by}
 use Rattle.message.specs.When.{IsStamped}
-use Rattle.contents.specs.declared.sound.Bounds.{Bounds}
-use Rattle.message.proofs.Laws.{accepted}
+use Rattle.message.specs.declared.reading.Bounds.{Bounds}
+use Rattle.message.proofs.Laws.{accepted, head_passed, headed_passed, headed_refused}
+use Rattle.contents.specs.Parts.{lookup_of}
+use Rattle.contents.specs.Sound.{fixed_bounds, sound_bounds}
 use Rattle.refusal.specs.declared.Refusal.{Refusal}
 
+no_bounds : {b : Bounds} → ◌≡◌ {A = Option Bounds} None (Some b) → ⊥
+no_bounds e = let z : ◌≡◌ {A = ℕ} 0 1 = cc in omega arith
+
 module _ (s : List ℕ) where
-  -- lengths that are told are those of octets that pass the checks before the tail's
-  pub told_bounds : {b : Bounds} → (b.size ≡ 0 → ⊥) → fixed_bounds s ≡ b → IsStamped s × (b ≡ bounds_at s)
+  -- lengths are told of the octets that pass the checks before the tail's, and of no other
+  pub fixed_by_head : result_ok (head_of s) ≡ fixed_bounds s
   unfolding fixed_bounds
-  told_bounds {b} n e =
-      let h : no_bounds ≡ b → ⊥ = λ q. n (ap (λ (x : Bounds). x.size) (sym q)) in
-      let p1 = passed _ _ _ _ h e in
-      let p2 = passed _ _ _ _ h p1.1 in
-      let p3 = passed _ _ _ _ h p2.1 in
-      let p4 = passed _ _ _ _ h p3.1 in
-      let p5 = passed _ _ _ _ h p4.1 in
-      let p6 = passed _ _ _ _ h p5.1 in
-      (((((((ltb-false _ _ p1.0, eqb-true _ _ (not-false _ p2.0)), eqb-false _ _ p3.0), ltb-false _ _ p4.0), ltb-false _ _ p5.0), p6.0), sym p6.1))
+  fixed_by_head = cases (head_of s) refl
+    where
+      cases : (o : Result Bounds Refusal) → head_of s ≡ o → result_ok o ≡ fixed_bounds s
+      cases (Ok b) e = let t = head_passed s e in ap Some t.1 ∙ sym (headed_passed s (λ x. None) _ t.0)
+      cases (Err x) e = sym (headed_refused s (λ x. None) _ e)
 
-  -- and they are told of all such octets
-  gives_bounds : IsStamped s → fixed_bounds s ≡ bounds_at s
-  unfolding fixed_bounds refuse
-  gives_bounds p =
-      rw (le-ltb _ _ p.0.0.0.0.0, eq-eqb _ _ p.0.0.0.0.1, ne_eqb _ _ p.0.0.0.1, le-ltb _ _ p.0.0.1, le-ltb _ _ p.0.1, p.1)
+  pub told_bounds : {b : Bounds} → fixed_bounds s ≡ Some b → IsStamped s × (b ≡ bounds_at s)
+  told_bounds {b} e = cases (head_of s) refl
+    where
+      cases : (o : Result Bounds Refusal) → head_of s ≡ o → IsStamped s × (b ≡ bounds_at s)
+      cases (Ok n) h =
+          let k : ◌≡◌ {A = Option Bounds} (Some n) (Some b) = rw h at (fixed_by_head ∙ e) in
+          let n-is : n ≡ b = cc in
+          rw n-is at (head_passed s h)
+      cases (Err x) h = absurd (no_bounds (rw h at (fixed_by_head ∙ e)))
 
-  -- where none are, the message is refused
-  pub no_bounds_lem : (magic : ℕ) {b : Bounds} → b.size ≡ 0 → fixed_bounds s ≡ b → check_of magic s ≡ Ok tt → ⊥
-  no_bounds_lem magic n e d =
-      let a = accepted magic s d in
-      let p : IsStamped s = (((((a.header, a.version), a.listed), a.least), a.lent), a.stamp) in
-      a.listed (ap (λ (x : Bounds). x.size) (sym (gives_bounds p) ∙ e) ∙ n)
+  -- octets that the checks accept pass those before the tail's
+  pub accepted_stamped : (magic : ℕ) → check_of magic s ≡ Ok tt → IsStamped s
+  accepted_stamped magic d =
+      let a = accepted magic s d in (((((a.header, a.version), a.listed), a.least), a.lent), a.stamp)
 
-  -- the part between the lengths told is the tail
-  pub part_tail : {b : Bounds} → b ≡ bounds_at s → take (b.length - b.size) (drop b.size s) ≡ tail_of s
-  part_tail e = λ i. take ((e i).length - (e i).size) (drop (e i).size s)
+  -- where no lengths are told, the message is refused
+  pub no_bounds_lem : (magic : ℕ) → fixed_bounds s ≡ None → check_of magic s ≡ Ok tt → ⊥
+  unfolding fixed_bounds
+  no_bounds_lem magic e d = no_bounds (sym e ∙ headed_passed s (λ x. None) _ (accepted_stamped magic d))
 
-  pub sound_none : (magic : ℕ) → (check_of magic s ≡ Ok tt → ⊥) → no_bounds ≡ sound_bounds magic s
+  pub sound_none : (magic : ℕ) → (check_of magic s ≡ Ok tt → ⊥) → None ≡ sound_bounds magic s
   unfolding sound_bounds
   sound_none magic h = cases (check_of magic s) refl
     where
-      cases : (o : Result (Unit {0}) Refusal) → check_of magic s ≡ o → no_bounds ≡ sound_bounds magic s
+      cases : (o : Result (Unit {0}) Refusal) → check_of magic s ≡ o → None ≡ sound_bounds magic s
       cases (Ok tt) e = absurd (h e)
       cases (Err x) e = rw e
 
   -- a message that the checks refuse is not looked at
-  pub not_looked_up : (magic kind : ℕ) → (check_of magic s ≡ Ok tt → ⊥) → by (check_of magic s) Err (Ok None) ≡ lookup_of magic kind s
+  pub not_looked_up : (magic kind : ℕ) {x : Refusal} → check_of magic s ≡ Err x → Err x ≡ lookup_of magic kind s
   unfolding lookup_of
-  not_looked_up magic kind h = cases (check_of magic s) refl
-    where
-      cases : (o : Result (Unit {0}) Refusal) → check_of magic s ≡ o → by (check_of magic s) Err (Ok None) ≡ lookup_of magic kind s
-      cases (Ok tt) e = absurd (h e)
-      cases (Err x) e = rw e
+  not_looked_up magic kind e = rw e
 
   -- the lengths of a message in which nothing is wrong are told, and of no other
-  pub whole_bounds : (magic : ℕ) {b : Bounds} → b ≡ sound_bounds magic s → (b.size ≡ 0 → ⊥) → (check_of magic s ≡ Ok tt) × (b ≡ bounds_at s)
+  pub whole_bounds : (magic : ℕ) {b : Bounds} → sound_bounds magic s ≡ Some b → (check_of magic s ≡ Ok tt) × (b ≡ bounds_at s)
   unfolding sound_bounds
-  whole_bounds magic {b} t n = cases (check_of magic s) refl
+  whole_bounds magic {b} t = cases (check_of magic s) refl
     where
       cases : (o : Result (Unit {0}) Refusal) → check_of magic s ≡ o → (check_of magic s ≡ Ok tt) × (b ≡ bounds_at s)
-      cases (Ok tt) e = (e, rw e at t)
-      cases (Err x) e = let z : b ≡ no_bounds = rw e at t in absurd (n (ap (λ (y : Bounds). y.size) z))
+      cases (Ok tt) e = (e, let k : ◌≡◌ {A = Option Bounds} (Some (bounds_at s)) (Some b) = rw e at t in cc)
+      cases (Err x) e = absurd (no_bounds (rw e at t))
 
-  pub refused_bounds : (magic : ℕ) {b : Bounds} → b ≡ sound_bounds magic s → b.size ≡ 0 → check_of magic s ≡ Ok tt → ⊥
+  pub refused_bounds : (magic : ℕ) → sound_bounds magic s ≡ None → check_of magic s ≡ Ok tt → ⊥
   unfolding sound_bounds
-  refused_bounds magic {b} t n d =
-      let z : b ≡ bounds_at s = rw d at t in
-      (accepted magic s d).listed (ap (λ (y : Bounds). y.size) (sym z) ∙ n)
+  refused_bounds magic t d = no_bounds (sym (rw d at t))

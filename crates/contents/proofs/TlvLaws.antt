@@ -25,12 +25,12 @@ use Rattle.message.specs.Fields.{type_of, version_of, length_of, fixed_size, tai
 use Rattle.message.specs.Reading.{bad_stamp, headed, check_of, by}
 use Rattle.message.specs.Reading.{Bounded}
 use Rattle.contents.specs.Parts.{lookup_of}
-use Rattle.contents.specs.Sound.{fixed_bounds}
 use Rattle.message.specs.When.{IsStamped, When}
 use Rattle.contents.specs.Tlvs.{tlv_of, end_of, tlvs_from, tlvs_of, standing, next_in, Tiles, Gives, of_type}
 use Rattle.contents.specs.Answers.{walked_code}
 use Rattle.contents.specs.declared.tlvs.Tlv.{Tlv}
 use Rattle.message.proofs.Laws.{accepted, bounded, tail_length}
+use Rattle.message.proofs.Laws as checks
 use Rattle.contents.proofs.Part.{tail_be}
 use Rattle.message.proofs.Exactly.{told, when_told}
 
@@ -42,32 +42,7 @@ end_next e = let z : ◌≡◌ {A = ℕ} 0 1 = cc in omega arith
 
 -- what comes after the checks before the tail's, where they are passed
 pub headed_passed : {A : Type 0} (refused : Refusal → A) (rest : A) (s : List ℕ) → IsStamped s → headed refused rest s ≡ rest
-unfolding refuse
-headed_passed refused rest s p =
-    rw (le-ltb _ _ p.0.0.0.0.0, eq_two p.0.0.0.0.1, ne_eqb _ _ p.0.0.0.1, le-ltb _ _ p.0.0.1, le-ltb _ _ p.0.1, p.1)
-  where
-    eq_two : {n : ℕ} → n ≡ 2 → eqb n 2 ≡ true
-    eq_two e = rw e
-
--- octets that do not pass them are refused by them
-pub headed_refused : {A : Type 0} (refused : Refusal → A) (rest other : A) (magic : ℕ) (s : List ℕ) → (fixed_bounds s).size ≡ 0
-    → by (check_of magic s) refused other ≡ headed refused rest s
-unfolding check_of fixed_bounds refuse
-headed_refused refused rest other magic s none =
-    cases (ltb (length s) 34) (not (eqb (version_of s) 2)) (eqb (fixed_size (type_of s)) 0) (ltb (length_of s) (fixed_size (type_of s)))
-    (ltb (length s) (length_of s)) (bad_stamp (type_of s) s) refl refl refl refl refl refl
-  where
-    cases : (a b c d e f : Bool) → ltb (length s) 34 ≡ a → not (eqb (version_of s) 2) ≡ b → eqb (fixed_size (type_of s)) 0 ≡ c
-        → ltb (length_of s) (fixed_size (type_of s)) ≡ d → ltb (length s) (length_of s) ≡ e → bad_stamp (type_of s) s ≡ f
-        → by (check_of magic s) refused other ≡ headed refused rest s
-    cases true b c d e f ea eb ec ed ee ef = rw ea
-    cases false true c d e f ea eb ec ed ee ef = rw (ea, eb)
-    cases false false true d e f ea eb ec ed ee ef = rw (ea, eb, ec)
-    cases false false false true e f ea eb ec ed ee ef = rw (ea, eb, ec, ed)
-    cases false false false false true f ea eb ec ed ee ef = rw (ea, eb, ec, ed, ee)
-    cases false false false false false true ea eb ec ed ee ef = rw (ea, eb, ec, ed, ee, ef)
-    cases false false false false false false ea eb ec ed ee ef =
-        absurd (eqb-false (fixed_size (type_of s)) 0 ec (rw (ea, eb, ec, ed, ee, ef) at none))
+headed_passed refused rest s p = checks.headed_passed s refused rest p
 
 -- ---- a TLV that is given
 module _ (magic size : ℕ) (t : List ℕ) (p : ℕ) where

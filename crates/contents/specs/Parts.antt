@@ -44,24 +44,16 @@ data_length (Ok (Some at)) s = be 2 s (at - 2)
 data_length (Ok None) s = 0
 data_length (Err x) s = 0
 
-abbrev pub suffix_answer : Option ℕ → Result (Option ℕ) Refusal
-suffix_answer (Some n) = Ok (Some n)
-suffix_answer None = Ok None
-
 -- the suffix of an Announce; another message is not the one the call takes
 unfoldable pub suffix_of : ℕ → List ℕ → Result (Option ℕ) Refusal
 suffix_of magic s =
     by (check_of magic s) Err
     (refuse (not (eqb (type_of s) 0xB)) (Err «Type»)
-    (suffix_answer (suffix_in magic (tail_of s))))
-
-abbrev pub link_answer : Option LinkMessage → Result (Option LinkMessage) Refusal
-link_answer (Some m) = Ok (Some m)
-link_answer None = Ok None
+    (Ok (suffix_in magic (tail_of s))))
 
 -- the first link message of a Signaling
 unfoldable pub link_of : ℕ → List ℕ → Result (Option LinkMessage) Refusal
 link_of magic s =
     by (check_of magic s) Err
     (refuse (not (eqb (type_of s) 0xC)) (Err «Type»)
-    (link_answer (link_in magic (tail_of s))))
+    (Ok (link_in magic (tail_of s))))

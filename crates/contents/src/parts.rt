@@ -4,9 +4,8 @@
 // the call beside says which.
 ghost use Rattle.std.specs.Prelude.{◌≡◌, ◌≤◌, length};
 ghost use Rattle.message.specs.Fields.{tail_of};
-ghost use Rattle.message.specs.Reading.{by};
 ghost use Rattle.message.specs.Reading.{Bounded};
-ghost use Rattle.contents.specs.Parts.{tail_in, data_in, lookup_of, IsWithin, data_length, suffix_answer, suffix_of, link_answer, link_of};
+ghost use Rattle.contents.specs.Parts.{tail_in, data_in, lookup_of, IsWithin, data_length, suffix_of, link_of};
 
 use message::fields::{ANNOUNCE, SIGNALING};
 use refusal::Refusal;
@@ -40,32 +39,19 @@ pub fn lookup(s: &[u8], kind: u16, magic: u16) -> &[u8]
     crate::search::data_of(t, kind)
 }
 
-fn unread(x: Result<(), Refusal>) -> Result<Option<usize>, Refusal>
-    ensures { result ≡ by x Err (Ok None) }
-{
-    match x {
-        Err(y) => Err(y),
-        Ok(()) => Ok(None),
-    }
-}
-
 // Why `lookup` hands back what it does. A message in which nothing is wrong is walked over once; what is wrong with any
 // other is left to the checks.
 pub fn looked_up(s: &[u8], kind: u16, magic: u16) -> Result<Option<usize>, Refusal>
     ensures { result ≡ lookup_of magic kind s.now }
 {
-    let b = crate::sound::fixed_bounds(s);
-    let size = b.size;
-    let length = b.length;
-    if size == 0 {
-        return unread(message::reading::check(s, magic));
-    }
-    let t = &s[size..length];
+    let b = message::reading::head(s)?;
+    let t = &s[b.size..b.length];
     let Some(p) = crate::search::sound_place(t, kind, magic) else {
-        return unread(message::reading::check(s, magic));
+        message::reading::check(s, magic)?;
+        return Ok(None);
     };
     if p < t.len() {
-        Ok(Some(size + p + 4))
+        Ok(Some(b.size + p + 4))
     } else {
         Ok(None)
     }
@@ -78,17 +64,7 @@ pub fn data_length(s: &[u8], x: Result<Option<usize>, Refusal>) -> usize
 {
     match x {
         Ok(Some(at)) => octets::held::u16_at(s, at - 2) as usize,
-        Ok(None) => 0,
-        Err(_) => 0,
-    }
-}
-
-fn suffix_read(x: Option<u16>) -> Result<Option<u16>, Refusal>
-    ensures { result ≡ suffix_answer x }
-{
-    match x {
-        Some(flags) => Ok(Some(flags)),
-        None => Ok(None),
+        _ => 0,
     }
 }
 
@@ -96,27 +72,14 @@ fn suffix_read(x: Option<u16>) -> Result<Option<u16>, Refusal>
 pub fn suffix(s: &[u8], magic: u16) -> Result<Option<u16>, Refusal>
     ensures { result ≡ suffix_of magic s.now }
 {
-    match message::reading::takes(s, ANNOUNCE, magic) {
-        Err(x) => Err(x),
-        Ok(()) => suffix_read(crate::wr::first_suffix(checked_tail(s), magic)),
-    }
-}
-
-fn link_read(x: Option<LinkMessage>) -> Result<Option<LinkMessage>, Refusal>
-    ensures { result ≡ link_answer x }
-{
-    match x {
-        Some(m) => Ok(Some(m)),
-        None => Ok(None),
-    }
+    message::reading::takes(s, ANNOUNCE, magic)?;
+    Ok(crate::wr::first_suffix(checked_tail(s), magic))
 }
 
 // The first link message of a Signaling: the reading checks, then 3 if it is another message.
 pub fn link_message(s: &[u8], magic: u16) -> Result<Option<LinkMessage>, Refusal>
     ensures { result ≡ link_of magic s.now }
 {
-    match message::reading::takes(s, SIGNALING, magic) {
-        Err(x) => Err(x),
-        Ok(()) => link_read(crate::wr::first_link(checked_tail(s), magic)),
-    }
+    message::reading::takes(s, SIGNALING, magic)?;
+    Ok(crate::wr::first_link(checked_tail(s), magic))
 }

@@ -46,42 +46,22 @@ fn stands_at(t: &[u8], size: usize, p: usize, magic: u16) -> Result<Option<Tlv>,
 fn begin(s: &[u8], magic: u16) -> Result<Option<Tlv>, Refusal>
     ensures { result ≡ by (check_of magic s.now) Err (standing magic (fixed_size (type_of s.now)) (tail_of s.now) 0) }
 {
-    match message::reading::check(s, magic) {
-        Err(x) => Err(x),
-        Ok(()) => {
-            let size = message::fields::fixed_size(s[0] % 16);
-            stands_at(crate::parts::checked_tail(s), size, 0, magic)
-        }
-    }
+    message::reading::check(s, magic)?;
+    let size = message::fields::fixed_size(s[0] % 16);
+    stands_at(crate::parts::checked_tail(s), size, 0, magic)
 }
 
-// How far behind a fixed part of `size` octets an octet of the message stands; 0 of one in it.
-fn behind(size: usize, from: usize) -> usize
-    ensures { result ≡ from - size }
-{
-    if from < size { 0 } else { from - size }
-}
-
-fn unwalked(x: Result<(), Refusal>) -> Result<Option<Tlv>, Refusal>
-    ensures { result ≡ by x Err (Ok None) }
-{
-    match x {
-        Err(y) => Err(y),
-        Ok(()) => Ok(None),
-    }
-}
-
-// The TLV at octet `from`, where nothing is wrong with what stands before the tail.
+// The TLV at octet `from`, where nothing is wrong with what stands before the tail; an octet of the fixed part stands for the tail's start.
 fn go_on(s: &[u8], from: usize, magic: u16) -> Result<Option<Tlv>, Refusal>
     ensures { result ≡ headed Err (standing magic (fixed_size (type_of s.now)) (tail_of s.now) (from - fixed_size (type_of s.now))) s.now }
 {
-    let b = crate::sound::fixed_bounds(s);
-    let size = b.size;
-    let length = b.length;
-    if size == 0 {
-        return unwalked(message::reading::check(s, magic));
-    }
-    stands_at(&s[size..length], size, behind(size, from), magic)
+    let b = message::reading::head(s)?;
+    stands_at(
+        &s[b.size..b.length],
+        b.size,
+        from.saturating_sub(b.size),
+        magic,
+    )
 }
 
 // The TLV that stands at octet `from` of the message; the first at 0.

@@ -3,10 +3,10 @@ ghost use Rattle.std.specs.Prelude.{◌≡◌, ◌≤◌, length};
 ghost use Rattle.message.specs.Fields.{type_of, fixed_size, identity_at, stamp_of, body_of};
 ghost use Rattle.message.specs.Reading.{read_of};
 
-use refusal::Refusal;
 use message::fields::{
     ANNOUNCE, Body, DELAY_REQ, DELAY_RESP, DelayResp, FOLLOW_UP, Message, SYNC, Timestamp,
 };
+use refusal::Refusal;
 
 fn stamp_of(s: &[u8]) -> Timestamp
     requires { 44 ≤ length s.now }
@@ -44,11 +44,9 @@ pub fn body_of(s: &[u8]) -> Body
 pub fn read(s: &[u8], magic: u16) -> Result<Message, Refusal>
     ensures { result ≡ read_of magic s.now }
 {
-    match message::reading::check(s, magic) {
-        Err(x) => Err(x),
-        Ok(()) => Ok(Message {
-            header: message::fields::header_of(s),
-            body: body_of(s),
-        }),
-    }
+    message::reading::check(s, magic)?;
+    Ok(Message {
+        header: message::fields::header_of(s),
+        body: body_of(s),
+    })
 }

@@ -1,20 +1,14 @@
 -- `tlvs::stands_at` meets its contract: at each way out the tests before it are known.
 use Rattle.std.specs.Prelude.{Some, Ok, Err}
-use mathlib.Core.Path.{◌≡◌, sym, ◌∙◌}
+use mathlib.Core.Path.{◌≡◌, sym}
 use native.Mathlib.Omega.{arith}
 use borrow.Author.Tests.{le-leb, lt-leb}
 use Rattle.refusal.specs.declared.Refusal.TheVariants.{Tlv, WrBad}
-use Rattle.tlv.specs.Walk.{next_of}
 use Rattle.tlv.specs.Form.{misfit_at}
 use Rattle.tlv.proofs.WalkLaws.{next_fits, next_whole, next_size}
 use Rattle.tlv.proofs.FaultLaws.{misfit_by_lem}
 use Rattle.contents.specs.Tlvs.{standing}
 use Rattle.contents.proofs.tlvs.stands_at.Goals as goal
-
--- a TLV stands there
-stepped : (c : goal.In-Some) → let a = c.args in next_of a.t.now a.p ≡ Some c.in-Some.q
-stepped c =
-    sym c.step.ensures ∙ c.in-Some.is
 
 pub returns-then-t-p : goal.returns-then-t-p
 unfolding standing
@@ -28,36 +22,40 @@ returns-in_default c =
 
 pub overflow_sub-l : goal.overflow_sub-l
 overflow_sub-l c =
-    let n = next_fits _ _ (stepped c) in omega arith
+    let n = next_fits _ _ (sym c.in-Some.ensures) in omega arith
 
 pub overflow_sub-l-2 : goal.overflow_sub-l-2
 overflow_sub-l-2 c =
-    let n = next_fits _ _ (stepped c) in omega arith
+    let n = next_fits _ _ (sym c.in-Some.ensures) in omega arith
 
 pub number_at-x-requires-clause-fits : goal.number_at-x-requires-clause-fits
 number_at-x-requires-clause-fits c =
-    next_whole _ _ (stepped c)
+    next_whole _ _ (sym c.in-Some.ensures)
 
 pub number_at-x-requires-clause-l_value : goal.number_at-x-requires-clause-l_value
 number_at-x-requires-clause-l_value c =
-    next_size _ _ (stepped c)
+    next_size _ _ (sym c.in-Some.ensures)
 
 pub returns-then-misfits : goal.returns-then-misfits
 unfolding standing
 returns-then-misfits c =
-    rw (lt-leb _ _ c.if-t-p.false, (let it : let a = c.args in next_of a.t.now a.p ≡ Some c.in-Some.q = sym c.step.ensures ∙ c.in-Some.is in it), ← (let it : let a = c.args in c.misfits.result ≡ misfit_at a.magic a.t.now a.p = misfit_by_lem _ _ _ c.number_at-x.ensures (next_size _ _ ((let it : let a = c.args in next_of a.t.now a.p ≡ Some c.in-Some.q = sym c.step.ensures ∙ c.in-Some.is in it))) c.misfits.ensures in it), c.if-misfits.true) (λ i. Err (WrBad (c.place_in-place.ensures i)))
+    let n = sym c.in-Some.ensures in
+    let m : c.misfits.result ≡ misfit_at c.args.magic c.args.t.now c.args.p = misfit_by_lem _ _ _ c.number_at-x.ensures (next_size _ _ n) c.misfits.ensures in
+    rw (lt-leb _ _ c.if-t-p.false, n, ← m, c.if-misfits.true) (λ i. Err (WrBad (c.place_in-place.ensures i)))
 
 pub u16_at-requires : goal.u16_at-requires
 u16_at-requires c =
-    let n = next_fits _ _ ((let it : let a = c.args in next_of a.t.now a.p ≡ Some c.in-Some.q = sym c.step.ensures ∙ c.in-Some.is in it)) in omega arith
+    let n = next_fits _ _ (sym c.in-Some.ensures) in omega arith
 
 pub overflow_cast-result : goal.overflow_cast-result
 overflow_cast-result c =
-    let n = next_fits _ _ ((let it : let a = c.args in next_of a.t.now a.p ≡ Some c.in-Some.q = sym c.step.ensures ∙ c.in-Some.is in it)) in record { fits = omega arith }
+    let n = next_fits _ _ (sym c.in-Some.ensures) in record { fits = omega arith }
 
 pub returns : goal.returns
 unfolding standing
 returns c =
-    let l = next_size _ _ ((let it : let a = c.args in next_of a.t.now a.p ≡ Some c.in-Some.q = sym c.step.ensures ∙ c.in-Some.is in it)) in
-    rw (lt-leb _ _ c.if-t-p.false, (let it : let a = c.args in next_of a.t.now a.p ≡ Some c.in-Some.q = sym c.step.ensures ∙ c.in-Some.is in it), ← (let it : let a = c.args in c.misfits.result ≡ misfit_at a.magic a.t.now a.p = misfit_by_lem _ _ _ c.number_at-x.ensures (next_size _ _ ((let it : let a = c.args in next_of a.t.now a.p ≡ Some c.in-Some.q = sym c.step.ensures ∙ c.in-Some.is in it))) c.misfits.ensures in it), c.if-misfits.false)
+    let n = sym c.in-Some.ensures in
+    let l = next_size _ _ n in
+    let m : c.misfits.result ≡ misfit_at c.args.magic c.args.t.now c.args.p = misfit_by_lem _ _ _ c.number_at-x.ensures l c.misfits.ensures in
+    rw (lt-leb _ _ c.if-t-p.false, n, ← m, c.if-misfits.false)
     (λ i. Ok (Some (record { place = c.place_in-place.ensures i; kind = c.u16_at.ensures i; length = l i })))
