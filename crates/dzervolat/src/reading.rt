@@ -22,13 +22,10 @@ pub extern "C" fn dz_read(
     ensures words { message.new ≡ read_words (read_of magic octets.now) message.old }
     ensures rest { tail.new ≡ tail_words (read_of magic octets.now) (length (tail_in magic octets.now)) tail.old }
 {
-    let b = contents::sound::sound_bounds(octets, magic);
-    let size = b.size;
-    let length = b.length;
-    if size == 0 {
+    let Some(b) = contents::sound::sound_bounds(octets, magic) else {
         return refusal::code(message::reading::check(octets, magic));
-    }
-    *tail = [size as u64, (length - size) as u64];
+    };
+    *tail = [b.size as u64, (b.length - b.size) as u64];
     message_words::reading::put_message(message, octets);
     0
 }

@@ -15,7 +15,7 @@ use Rattle.message.specs.Fields.{type_of, fixed_size, body_of}
 use Rattle.message.specs.Reading.{check_of, read_of}
 use Rattle.contents.specs.Parts.{tail_in}
 use Rattle.contents.specs.Sound.{bounds_at}
-use Rattle.contents.specs.declared.sound.Bounds.{Bounds}
+use Rattle.message.specs.declared.reading.Bounds.{Bounds}
 use Rattle.message.proofs.Laws.{accepted, bounded, tail_length}
 use Rattle.message_words.specs.Answers.{read_code, read_words, tail_words}
 use Rattle.refusal.specs.declared.Refusal.{Refusal}
