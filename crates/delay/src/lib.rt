@@ -5,10 +5,11 @@
 // left to others. Inside, a signed number is raised by a power of two, so that it is added and compared as an
 // unsigned one; no number is wider than 64 bits. Nothing is multiplied or divided but by shifting, comparing, adding
 // and subtracting: a small line card's processor can do no more.
-ghost use Rattle.std.specs.Prelude.{◌≡◌, pos, ◌+ℤ◌, ◌-ℤ◌, ◌+◌, ◌-◌, ◌*◌, ◌/◌, ◌%◌, ◌^◌, ◌≤◌, ◌<◌};
-ghost use Rattle.signed.specs.Limits.{within, Within};
+ghost use Rattle.std.specs.Prelude.{◌≡◌, ◌&&◌, neg_ℤ, ◌≤ℤ◌, pos, ◌+ℤ◌, ◌-ℤ◌, ◌+◌, ◌-◌, ◌*◌, ◌/◌, ◌%◌, ◌^◌, ◌≤◌, ◌<◌};
+ghost use Rattle.std.specs.Int.Signed.{lt_z};
+ghost use Rattle.signed.specs.Limits.{Within};
 ghost use Rattle.delay.specs.Delay.{fine, t1, t2, t3, t4, in_ns, delay, second, in_seconds};
-ghost use Rattle.delay.specs.Range.{corrections_good, latency_good, latencies_good, stamp_good, stamps_good, inputs_good, StampIn, LatenciesIn, InputsIn};
+ghost use Rattle.delay.specs.Range.{corrections_good, latencies_good, stamp_good, stamps_good, inputs_good, StampIn, LatenciesIn, InputsIn};
 ghost use Rattle.delay.specs.Answer.{measure_of};
 ghost use Rattle.delay.specs.Inside.{time_of, Fair, TimeIs, SpanIs, MIs, ShareIs, DelayIs};
 
@@ -113,83 +114,61 @@ const TWO_48: u64 = 1 << 48;
 
 const TWO_49: u64 = 1 << 49;
 
-// Whether a correction lies strictly between -2^47 and 2^47.
-fn correction_good(c: ScaledNs) -> bool
-    ensures { result ≡ within 47 c.0 }
+// Whether a number lies strictly between -limit and limit.
+fn is_within(x: i64, limit: i64) -> bool
+    requires { pos 0 ≤ℤ limit }
+    ensures { result ≡ lt_z (neg_ℤ limit) x && lt_z x limit }
 {
-    let x = c.0;
-    (-CORRECTION < x) & (x < CORRECTION)
+    -limit < x && x < limit
 }
 
-// Whether all three corrections are good.
+// Whether all three corrections lie strictly between -2^47 and 2^47.
+#[tactic(auto, unfolding(crate::specs::Range::corrections_good))]
 fn corrections_good(c: Corrections) -> bool
     ensures { result ≡ corrections_good c }
 {
-    let sync = c.sync;
-    let follow = c.follow;
-    let resp = c.resp;
-    correction_good(sync) & correction_good(follow) & correction_good(resp)
+    is_within(c.sync.0, CORRECTION)
+        && is_within(c.follow.0, CORRECTION)
+        && is_within(c.resp.0, CORRECTION)
 }
 
-// Whether the asymmetry lies strictly between -2^39 and 2^39.
-fn asymmetry_good(a: Asymmetry) -> bool
-    ensures { result ≡ within 39 a.0 }
-{
-    let x = a.0;
-    (-ASYMMETRY < x) & (x < ASYMMETRY)
-}
-
-// Whether a latency is below 2^50.
-fn latency_good(l: ScaledPs) -> bool
-    ensures { result ≡ latency_good l }
-{
-    l.0 < LATENCY
-}
-
-// Whether all four latencies are good.
+// Whether all four latencies are below 2^50.
+#[tactic(auto, unfolding(crate::specs::Range::latencies_good))]
 fn latencies_good(l: Latencies) -> bool
     ensures { result ≡ latencies_good l }
 {
-    let mtx = l.mtx;
-    let mrx = l.mrx;
-    let stx = l.stx;
-    let srx = l.srx;
-    latency_good(mtx) & latency_good(mrx) & latency_good(stx) & latency_good(srx)
+    [l.mtx, l.mrx, l.stx, l.srx].iter().all(|l| l.0 < LATENCY)
 }
 
 // Whether a stamp's seconds are below 2^48 and its nanoseconds below 10^9.
+#[tactic(auto, unfolding(crate::specs::Range::stamp_good))]
 fn stamp_good(seconds: u64, nanos: u32) -> bool
     ensures { result ≡ stamp_good seconds nanos }
 {
-    (seconds < SECONDS) & (nanos < refusal::SECOND_NANOS)
+    seconds < SECONDS && nanos < refusal::SECOND_NANOS
 }
 
 // Whether all four stamps are good.
+#[tactic(auto, unfolding(crate::specs::Range::stamps_good))]
 fn stamps_good(s: Stamps) -> bool
     ensures { result ≡ stamps_good s }
 {
-    let t1 = s.t1;
-    let t2 = s.t2;
-    let t3 = s.t3;
-    let t4 = s.t4;
-    stamp_good(t1.seconds, t1.nanos)
-        & stamp_good(t2.seconds, t2.nanos)
-        & stamp_good(t3.seconds, t3.nanos)
-        & stamp_good(t4.seconds, t4.nanos)
+    stamp_good(s.t1.seconds, s.t1.nanos)
+        && stamp_good(s.t2.seconds, s.t2.nanos)
+        && stamp_good(s.t3.seconds, s.t3.nanos)
+        && stamp_good(s.t4.seconds, s.t4.nanos)
 }
 
-// Whether all that was handed in is within its limits; the two differences are still to be looked at.
+// Whether all that was handed in is within its limits; the two differences are still to be looked at. The asymmetry lies strictly
+// between -2^39 and 2^39.
+#[tactic(auto, unfolding(crate::specs::Range::inputs_good))]
 fn inputs_good(x: Exchange) -> bool
     ensures { result ≡ inputs_good x }
 {
-    let stamps = x.stamps;
-    let corrections = x.corrections;
-    let asymmetry = x.asymmetry;
-    let latencies = x.latencies;
-    stamps_good(stamps)
-        & corrections_good(corrections)
-        & asymmetry_good(asymmetry)
-        & latencies_good(latencies)
+    stamps_good(x.stamps)
+        && corrections_good(x.corrections)
+        && is_within(x.asymmetry.0, ASYMMETRY)
+        && latencies_good(x.latencies)
 }
 
 // A correction, raised by 2^47.
@@ -197,8 +176,7 @@ fn raised(c: ScaledNs) -> u64
     requires { Within 47 c.0 }
     ensures { pos result ≡ c.0 +ℤ pos (2 ^ 47) }
 {
-    let x = c.0;
-    signed::raised(x, TWO_47)
+    signed::raised(c.0, TWO_47)
 }
 
 // 2^40 + a, the numerator of the share; the denominator is 2^40 more.
@@ -206,8 +184,7 @@ fn numerator(a: Asymmetry) -> u64
     requires { Within 39 a.0 }
     ensures { pos result ≡ pos (2 ^ 40) +ℤ a.0 }
 {
-    let x = a.0;
-    signed::raised(x, TWO_40)
+    signed::raised(a.0, TWO_40)
 }
 
 // A time, raised by 2^48: whole seconds, and a part in nanoseconds times 2^16 that may be several seconds.
@@ -222,14 +199,9 @@ fn t1(x: Exchange) -> Time
     requires { InputsIn x }
     ensures { TimeIs (t1 x) result }
 {
-    let stamp = x.stamps.t1;
-    let sync = x.corrections.sync;
-    let follow = x.corrections.follow;
-    let part = ((stamp.nanos as u64) << 16) + raised(sync) + raised(follow);
-    Time {
-        seconds: stamp.seconds,
-        part,
-    }
+    let Stamp { seconds, nanos } = x.stamps.t1;
+    let part = (u64::from(nanos) << 16) + raised(x.corrections.sync) + raised(x.corrections.follow);
+    Time { seconds, part }
 }
 
 // t2 or t3, as it stands.
@@ -237,7 +209,7 @@ fn slave_time(s: FineStamp) -> Time
     requires { StampIn s.seconds s.nanos }
     ensures { TimeIs (pos (fine s)) result }
 {
-    let part = ((s.nanos as u64) << 16) + s.fraction as u64 + TWO_48;
+    let part = (u64::from(s.nanos) << 16) + u64::from(s.fraction) + TWO_48;
     Time {
         seconds: s.seconds,
         part,
@@ -249,13 +221,9 @@ fn t4(x: Exchange) -> Time
     requires { InputsIn x }
     ensures { TimeIs (t4 x) result }
 {
-    let stamp = x.stamps.t4;
-    let resp = x.corrections.resp;
-    let part = ((stamp.nanos as u64) << 16) + TWO_48 + TWO_47 - raised(resp);
-    Time {
-        seconds: stamp.seconds,
-        part,
-    }
+    let Stamp { seconds, nanos } = x.stamps.t4;
+    let part = (u64::from(nanos) << 16) + TWO_48 + TWO_47 - raised(x.corrections.resp);
+    Time { seconds, part }
 }
 
 // How far s whole seconds are ahead of t; nothing where they are not.
@@ -263,10 +231,7 @@ fn ahead(s: u64, t: u64) -> u64
     requires { s ≤ t + 32 }
     ensures { result ≡ (s - t) * second }
 {
-    if s <= t {
-        return 0;
-    }
-    quotient::times(s - t, SECOND)
+    quotient::times(s.saturating_sub(t), SECOND)
 }
 
 // over - under, raised by 2^47, where it lies strictly between -2^47 and 2^47.
@@ -274,12 +239,9 @@ fn apart(over: u64, under: u64) -> Option<u64>
     requires { over < 2 ^ 62 }
     ensures { SpanIs (pos over -ℤ pos under) result }
 {
-    let top = over + TWO_47;
-    if top <= under {
-        return None;
-    }
-    let n = top - under;
-    if n < TWO_48 { Some(n) } else { None }
+    (over + TWO_47)
+        .checked_sub(under)
+        .filter(|n| (1..TWO_48).contains(n))
 }
 
 // a - b, raised by 2^47, where it lies strictly between -2^47 and 2^47. Mostly both are in the same second.
@@ -292,10 +254,7 @@ fn between(a: Time, b: Time) -> Option<u64>
     if s == t {
         return apart(a.part, b.part);
     }
-    if s + 32 < t {
-        return None;
-    }
-    if t + 32 < s {
+    if 32 < s.abs_diff(t) {
         return None;
     }
     apart(ahead(s, t) + a.part, ahead(t, s) + b.part)
@@ -314,29 +273,20 @@ fn inner(x: Exchange) -> Option<u64>
     requires { InputsIn x }
     ensures { SpanIs (t3 x -ℤ t2 x) result }
 {
-    let t2 = x.stamps.t2;
-    let t3 = x.stamps.t3;
-    between(slave_time(t3), slave_time(t2))
+    between(slave_time(x.stamps.t3), slave_time(x.stamps.t2))
 }
 
 // M = (t4 - t1) - (t3 - t2), raised by 2^48, where nothing is outside its limit.
+#[tactic(auto, using(crate::proofs::Ranges::no_inputs, crate::proofs::Ranges::no_outer, crate::proofs::Ranges::no_inner))]
 fn two_way(x: Exchange) -> Option<u64>
     ensures { MIs x result }
 {
-    let good = inputs_good(x);
-    if !good {
+    if !inputs_good(x) {
         return None;
     }
-    let there = outer(x);
-    let Some(u) = there else {
-        return None;
-    };
-    let back = inner(x);
-    let Some(v) = back else {
-        return None;
-    };
-    let m = u + TWO_48 - v;
-    Some(m)
+    let there = outer(x)?;
+    let back = inner(x)?;
+    Some(there + TWO_48 - back)
 }
 
 // The sum of four latencies.
@@ -344,8 +294,7 @@ fn both_ways(l: Latencies) -> ScaledPs
     requires { LatenciesIn l }
     ensures { result.0 ≡ l.mtx.0 + l.mrx.0 + l.stx.0 + l.srx.0 }
 {
-    let sum = l.mtx.0 + l.mrx.0 + l.stx.0 + l.srx.0;
-    ScaledPs(sum)
+    ScaledPs(l.mtx.0 + l.mrx.0 + l.stx.0 + l.srx.0)
 }
 
 // The latencies of the way from master to slave: master tx and slave rx.
@@ -353,16 +302,14 @@ fn one_way(l: Latencies) -> ScaledPs
     requires { LatenciesIn l }
     ensures { result.0 ≡ l.mtx.0 + l.srx.0 }
 {
-    let sum = l.mtx.0 + l.srx.0;
-    ScaledPs(sum)
+    ScaledPs(l.mtx.0 + l.srx.0)
 }
 
 // The one way from picoseconds to nanoseconds: a sum, divided by 1000 and rounded down.
 pub fn in_ns(sum: ScaledPs) -> ScaledNs
     ensures { result.0 ≡ in_ns sum.0 }
 {
-    let n = quotient::thousandth(sum.0);
-    ScaledNs(n as i64)
+    ScaledNs(quotient::thousandth(sum.0) as i64)
 }
 
 // floor((2^40 + a) z / (2^41 + a)). Both z and the answer are raised by 2^49; a negative z is moved up by 256 times the
@@ -385,12 +332,10 @@ fn delay_of(x: Exchange, m: u64) -> u64
     requires { MIs x (Some m) }
     ensures { DelayIs (delay x) result }
 {
-    let latencies = x.latencies;
-    let asymmetry = x.asymmetry;
-    let both = in_ns(both_ways(latencies));
-    let one = in_ns(one_way(latencies));
+    let both = in_ns(both_ways(x.latencies));
+    let one = in_ns(one_way(x.latencies));
     let z = m + TWO_48 + TWO_47 - raised(both);
-    share(asymmetry, z) + raised(one) - TWO_47
+    share(x.asymmetry, z) + raised(one) - TWO_47
 }
 
 // A delay that comes raised by 2^49.
@@ -398,8 +343,7 @@ fn lowered(delay: u64) -> ScaledNs
     requires { delay < 2 ^ 51 }
     ensures { result.0 ≡ pos delay -ℤ pos (2 ^ 49) }
 {
-    let n = signed::difference(delay, TWO_49);
-    ScaledNs(n)
+    ScaledNs(signed::difference(delay, TWO_49))
 }
 
 // Whole seconds and a rest of what was raised by 64 seconds. Offsets of less than a second, either way, lie around 64, and there comparisons
@@ -408,22 +352,17 @@ fn split(parts: u64) -> Part
     requires { parts < 128 * second }
     ensures { (result.whole ≡ parts / second) × (result.rest ≡ parts % second) }
 {
-    if parts < SECONDS_63 {
-        return quotient::divided(parts, SECOND, 7);
-    }
-    if parts < SECONDS_64 {
-        return Part {
+    match parts {
+        SECONDS_63..SECONDS_64 => Part {
             whole: 63,
             rest: parts - SECONDS_63,
-        };
-    }
-    if parts < SECONDS_65 {
-        return Part {
+        },
+        SECONDS_64..SECONDS_65 => Part {
             whole: 64,
             rest: parts - SECONDS_64,
-        };
+        },
+        _ => quotient::divided(parts, SECOND, 7),
     }
-    quotient::divided(parts, SECOND, 7)
 }
 
 // t2 - t1 - delay, in whole seconds and a rest. The times are raised alike, the delay by 2^49.
@@ -443,12 +382,8 @@ fn offset_of(t2: Time, t1: Time, delay: u64) -> Offset
 pub fn measure(x: Exchange) -> Result<(ScaledNs, Offset), Refusal>
     ensures { result ≡ measure_of x }
 {
-    let way = two_way(x);
-    let Some(m) = way else {
-        return Err(Refusal::Range);
-    };
+    let m = two_way(x).ok_or(Refusal::Range)?;
     let delay = delay_of(x, m);
-    let t2 = x.stamps.t2;
-    let offset = offset_of(slave_time(t2), t1(x), delay);
+    let offset = offset_of(slave_time(x.stamps.t2), t1(x), delay);
     Ok((lowered(delay), offset))
 }
