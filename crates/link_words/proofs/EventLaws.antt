@@ -1,6 +1,6 @@
 -- The words written from a step in numbers and the settings' words are the step's words.
 use Prim.Native.Nat.{ℕ, ◌+◌}
-use mathlib.Core.Path.{◌≡◌, refl, ◌∙◌}
+use mathlib.Core.Path.{◌≡◌, refl, ap, ◌∙◌}
 use mathlib.Core.Bool.{Bool, true, false, not}
 use mathlib.Core.List.{List, [], ◌∷◌}
 use lib.Dec.{eqb}
@@ -19,7 +19,8 @@ use Rattle.link.specs.declared.Sends.TheVariants.{Nothing, Two}
 use Rattle.link.specs.declared.Stepped.{Stepped}
 use Rattle.link.specs.States.{state_number}
 use Rattle.link.specs.Machine.{asked, calibrate_of, calibrated_of, message_of, mode_on_of, Skips, taken, stepped}
-use Rattle.links.specs.Words.{bit, role_number, settings_of}
+use Rattle.links.specs.declared.brief.Brief.{Brief}
+use Rattle.links.specs.Words.{bit, role_number, word_of, settings_of}
 use Rattle.links.specs.Brief.{sent_first, sent_both, brief_of}
 use Rattle.links.proofs.WordLaws.{state_in, role_in, mode_in, count_in}
 use Rattle.links.proofs.BriefLaws.{without_latencies}
@@ -90,3 +91,8 @@ module _ (w tx rx : ℕ) where
   pub step_words_lem : (l : Link) (e : Event) → brief_words w tx rx (brief_of (stepped (settings_of w 0 0) l e)) ≡ step_words (stepped s l e)
   unfolding stepped
   step_words_lem l e = rw (← without_latencies w tx rx l e) (taken_words_lem l (asked s.config l e))
+
+  -- and the word that is kept of them is the link's
+  pub step_word_lem : (l : Link) (e : Event) → word_of (stepped s l e).link ≡ (brief_of (stepped (settings_of w 0 0) l e)).word
+  unfolding brief_of
+  step_word_lem l e = ap (λ (b : Brief). b.word) (without_latencies w tx rx l e)

@@ -1,3 +1,4 @@
+#![tactic(auto, unfolding(crate::specs::Events::link_words, crate::specs::Events::with_calibrate, crate::specs::Events::with_calibrated, crate::specs::Events::with_second, crate::specs::Events::brief_words))]
 // An event on a port's link, answered in words. They are written from the step in numbers, and from the settings' words where a
 // message is sent that carries them.
 ghost use Rattle.std.specs.Prelude.{◌≡◌};
@@ -15,38 +16,25 @@ fn put_link(b: Brief, out: &mut [u64; 18])
     ensures { out.new ≡ link_words b }
 {
     let w = b.word;
-    let sends = b.sends;
-    let both = links::bit(b.both);
-    let report = links::bit(b.report);
-    let some = links::bit(sends != 0);
-    *out = [
+    let count = u64::from(b.sends != 0) + u64::from(b.both);
+    out.fill(0);
+    out[..7].copy_from_slice(&[
         w % 8,
         w / 8 % 2,
         w / 16 % 2,
         w / 32,
-        report,
-        some + both,
-        sends,
-        0,
-        0,
-        0,
-        0,
-        0,
-        0,
-        0,
-        0,
-        0,
-        0,
-        0,
-    ];
+        u64::from(b.report),
+        count,
+        b.sends,
+    ]);
 }
 
 // What CALIBRATE carries.
 fn put_calibrate(settings: u64, sends: u64, out: &mut [u64; 18])
     ensures { out.new ≡ with_calibrate settings sends out.old }
 {
-    if sends == CALIBRATE as u64 {
-        out[7] = links::bit(settings / 4 % 2 == 1);
+    if sends == u64::from(CALIBRATE) {
+        out[7] = settings / 4 % 2;
         out[8] = settings / 8 % 256;
         out[9] = settings / 2048 % 4294967296;
     }
@@ -56,7 +44,7 @@ fn put_calibrate(settings: u64, sends: u64, out: &mut [u64; 18])
 fn put_calibrated(tx: u64, rx: u64, sends: u64, out: &mut [u64; 18])
     ensures { out.new ≡ with_calibrated tx rx sends out.old }
 {
-    if sends == CALIBRATED as u64 {
+    if sends == u64::from(CALIBRATED) {
         out[10] = tx;
         out[11] = rx;
     }
@@ -67,7 +55,7 @@ fn put_second(tx: u64, rx: u64, both: bool, out: &mut [u64; 18])
     ensures { out.new ≡ with_second tx rx both out.old }
 {
     if both {
-        out[12] = CALIBRATED as u64;
+        out[12] = CALIBRATED.into();
         out[16] = tx;
         out[17] = rx;
     }
@@ -77,24 +65,22 @@ fn put_second(tx: u64, rx: u64, both: bool, out: &mut [u64; 18])
 fn put_brief(settings: u64, tx: u64, rx: u64, b: Brief, out: &mut [u64; 18])
     ensures { out.new ≡ brief_words settings tx rx b }
 {
-    let sends = b.sends;
-    let both = b.both;
     put_link(b, out);
-    put_calibrate(settings, sends, out);
-    put_calibrated(tx, rx, sends, out);
-    put_second(tx, rx, both, out);
+    put_calibrate(settings, b.sends, out);
+    put_calibrated(tx, rx, b.sends, out);
+    put_second(tx, rx, b.both, out);
 }
 
 // Takes an event on a port.
+#[tactic(auto, using(crate::proofs::EventLaws::step_words_lem, crate::proofs::EventLaws::step_word_lem), unfolding(links::specs::Words::take_answer, links::specs::Words::take_words, refusal::specs::Choice::refuse))]
 pub fn take(words: &mut [u64; 72], port: u8, e: Event, out: &mut [u64; 18]) -> u64
     ensures answer { result ≡ taken_code (take_answer words.old port e) }
     ensures words { words.new ≡ take_words words.old port e }
     ensures step { out.new ≡ taken_words (take_answer words.old port e) out.old }
 {
-    if !refusal::is_port(port) {
+    let Ok(at) = links::place(port) else {
         return refusal::number(Refusal::Port);
-    }
-    let at = links::place(port);
+    };
     let settings = words[at + 1];
     let tx = words[at + 2];
     let rx = words[at + 3];

@@ -5,62 +5,47 @@ ghost use Rattle.link_words.specs.Steps.{sends_words, step_words, taken_code, ta
 
 pub mod events;
 
-use refusal::Refusal;
 use link::{Sends, Stepped};
+use message_words::answers::link_message_words;
+use refusal::Refusal;
 
 // What a step sends: how many messages, then two of six words each, zeros where there is none.
+#[tactic(auto, unfolding(crate::specs::Steps::sends_words))]
 fn sends_words(s: Sends) -> [u64; 13]
     ensures { result ≡ sends_words s }
 {
+    let mut words = [0; 13];
     match s {
-        Sends::Nothing => [0; 13],
+        Sends::Nothing => {}
         Sends::One(a) => {
-            let w = message_words::answers::link_message_words(a);
-            [1, w[0], w[1], w[2], w[3], w[4], w[5], 0, 0, 0, 0, 0, 0]
+            words[0] = 1;
+            words[1..7].copy_from_slice(&link_message_words(a));
         }
         Sends::Two(a, b) => {
-            let w = message_words::answers::link_message_words(a);
-            let x = message_words::answers::link_message_words(b);
-            [
-                2, w[0], w[1], w[2], w[3], w[4], w[5], x[0], x[1], x[2], x[3], x[4], x[5],
-            ]
+            words[0] = 2;
+            words[1..7].copy_from_slice(&link_message_words(a));
+            words[7..].copy_from_slice(&link_message_words(b));
         }
     }
+    words
 }
 
 // A step: the state, the role, the mode, the retry count, whether it reports link on, then what is sent.
+#[tactic(auto, unfolding(crate::specs::Steps::step_words))]
 fn step_words(s: Stepped) -> [u64; 18]
     ensures { result ≡ step_words s }
 {
     let l = s.link;
-    let sends = s.sends;
-    let state = l.state;
-    let role = l.role;
-    let number = links::state_number(state);
-    let side = links::role_number(role);
-    let mode = links::bit(l.mode);
-    let report = links::bit(s.report);
-    let m = sends_words(sends);
-    [
-        number,
-        side,
-        mode,
-        l.retries as u64,
-        report,
-        m[0],
-        m[1],
-        m[2],
-        m[3],
-        m[4],
-        m[5],
-        m[6],
-        m[7],
-        m[8],
-        m[9],
-        m[10],
-        m[11],
-        m[12],
-    ]
+    let mut words = [0; 18];
+    words[..5].copy_from_slice(&[
+        links::state_number(l.state),
+        links::role_number(l.role),
+        l.mode.into(),
+        l.retries.into(),
+        s.report.into(),
+    ]);
+    words[5..].copy_from_slice(&sends_words(s.sends));
+    words
 }
 
 // What an event on a port gives.
@@ -68,11 +53,5 @@ pub fn put_taken(out: &mut [u64; 18], t: Result<Stepped, Refusal>) -> u64
     ensures answer { result ≡ taken_code t }
     ensures words { out.new ≡ taken_words t out.old }
 {
-    match t {
-        Err(x) => refusal::number(x),
-        Ok(s) => {
-            *out = step_words(s);
-            0
-        }
-    }
+    words::put(out, t.map(step_words).map_err(refusal::number))
 }
