@@ -54,6 +54,13 @@ abbrev pub exchange_fits : List ℕ → Bool
 exchange_fits w =
     ((((ltb (get_or w 1 0) 0x100000000 && ltb (get_or w 5 0) 0x100000000) && ltb (get_or w 8 0) 0x100000000) && ltb (get_or w 11 0) 0x100000000) && ltb (get_or w 6 0) 65536) && ltb (get_or w 9 0) 65536
 
+-- the words of one stamp
+abbrev pub stamp_fits : List ℕ → ℕ → Bool
+stamp_fits w at = ltb (get_or w (at + 1) 0) 0x100000000
+
+abbrev pub fine_fits : List ℕ → ℕ → Bool
+fine_fits w at = stamp_fits w at && ltb (get_or w (at + 2) 0) 65536
+
 -- "a number outside a limit of the delay section": also one that its field cannot hold
 abbrev pub measured_of : List ℕ → Result (ScaledNs × Offset) Refusal
 measured_of w = refuse (not (exchange_fits w)) (Err Range) (measure_of (exchange_of w))

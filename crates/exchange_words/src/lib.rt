@@ -1,45 +1,51 @@
 #![tactic(auto)]
 // An exchange in eighteen words, in the order of the call `delay` (docs/VECTORS.md), and its delay and offset in three. A word that its field cannot
 // hold is a number outside a limit, as the engine's own limits are: 14.
-ghost use Rattle.std.specs.Prelude.{◌≡◌, ◌+◌, ◌≤◌};
-ghost use Rattle.exchange_words.specs.Exchanges.{stamp_at, fine_at, ns_at, stamps_of, corrections_of, latencies_of, asymmetry_of, exchange_of, exchange_fits, measured_of, measured_code, measured_words};
+ghost use Rattle.std.specs.Prelude.{◌≡◌, ◌+◌, ◌≤◌, [], Some, None, Ok};
+ghost use Rattle.refusal.specs.Choice.{pick};
+ghost use Rattle.exchange_words.specs.Exchanges.{stamp_at, fine_at, ns_at, stamps_of, corrections_of, latencies_of, asymmetry_of, exchange_of, stamp_fits, fine_fits, exchange_fits, measured_of, measured_code, measured_words};
 
-use delay::{Asymmetry, Corrections, Exchange, FineStamp, Latencies, Offset, ScaledNs, ScaledPs, Stamp, Stamps};
+use delay::{
+    Asymmetry, Corrections, Exchange, FineStamp, Latencies, Offset, ScaledNs, ScaledPs, Stamp,
+    Stamps,
+};
 use refusal::Refusal;
 
-// A stamp of a message: seconds and nanoseconds.
-fn stamp_at(w: &[u64; 18], at: usize) -> Stamp
+// A stamp of a message: seconds and nanoseconds. None where the word of the nanoseconds does not fit.
+fn stamp_at(w: &[u64; 18], at: usize) -> Option<Stamp>
     requires { at + 2 ≤ 18 }
-    ensures { result ≡ stamp_at w.now at }
+    ensures { result ≡ pick (stamp_fits w.now at) (Some (stamp_at w.now at)) None }
 {
-    Stamp {
+    Some(Stamp {
         seconds: w[at],
-        nanos: (w[at + 1] % 0x1_0000_0000) as u32,
-    }
+        nanos: u32::try_from(w[at + 1]).ok()?,
+    })
 }
 
-// A stamp of our own hardware: seconds, nanoseconds and a fraction.
-fn fine_at(w: &[u64; 18], at: usize) -> FineStamp
+// A stamp of our own hardware, with a fraction of a nanosecond besides.
+fn fine_at(w: &[u64; 18], at: usize) -> Option<FineStamp>
     requires { at + 3 ≤ 18 }
-    ensures { result ≡ fine_at w.now at }
+    ensures { result ≡ pick (fine_fits w.now at) (Some (fine_at w.now at)) None }
 {
-    FineStamp {
-        seconds: w[at],
-        nanos: (w[at + 1] % 0x1_0000_0000) as u32,
-        fraction: (w[at + 2] % 65536) as u16,
-    }
+    let Stamp { seconds, nanos } = stamp_at(w, at)?;
+    let fraction = u16::try_from(w[at + 2]).ok()?;
+    Some(FineStamp {
+        seconds,
+        nanos,
+        fraction,
+    })
 }
 
 // The four stamps.
-fn stamps_of(w: &[u64; 18]) -> Stamps
-    ensures { result ≡ stamps_of w.now }
+fn stamps_of(w: &[u64; 18]) -> Option<Stamps>
+    ensures { result ≡ pick (exchange_fits w.now) (Some (stamps_of w.now)) None }
 {
-    Stamps {
-        t1: stamp_at(w, 0),
-        t2: fine_at(w, 4),
-        t3: fine_at(w, 7),
-        t4: stamp_at(w, 10),
-    }
+    Some(Stamps {
+        t1: stamp_at(w, 0)?,
+        t2: fine_at(w, 4)?,
+        t3: fine_at(w, 7)?,
+        t4: stamp_at(w, 10)?,
+    })
 }
 
 // A signed number of scaled nanoseconds.
@@ -47,8 +53,7 @@ fn ns_at(w: &[u64; 18], at: usize) -> ScaledNs
     requires { at + 1 ≤ 18 }
     ensures { result ≡ ns_at w.now at }
 {
-    let x = octets::signed64(w[at]);
-    ScaledNs(x)
+    ScaledNs(w[at].cast_signed())
 }
 
 // The three corrections.
@@ -78,55 +83,45 @@ fn latencies_of(w: &[u64; 18]) -> Latencies
 fn asymmetry_of(w: &[u64; 18]) -> Asymmetry
     ensures { result ≡ asymmetry_of w.now }
 {
-    let x = octets::signed64(w[17]);
-    Asymmetry(x)
+    Asymmetry(w[17].cast_signed())
 }
 
-// The exchange in eighteen words.
-fn exchange_of(w: &[u64; 18]) -> Exchange
-    ensures { result ≡ exchange_of w.now }
+// The exchange in eighteen words. Any word is a second, a correction, a latency or an asymmetry.
+fn exchange_of(w: &[u64; 18]) -> Option<Exchange>
+    ensures { result ≡ pick (exchange_fits w.now) (Some (exchange_of w.now)) None }
 {
-    Exchange {
-        stamps: stamps_of(w),
+    Some(Exchange {
+        stamps: stamps_of(w)?,
         corrections: corrections_of(w),
         latencies: latencies_of(w),
         asymmetry: asymmetry_of(w),
-    }
-}
-
-// Whether the words of nanoseconds and of their fractions fit; any word is a second, a correction, a latency or an asymmetry.
-fn exchange_fits(w: &[u64; 18]) -> bool
-    ensures { result ≡ exchange_fits w.now }
-{
-    let nanos = (w[1] < 0x1_0000_0000)
-        & (w[5] < 0x1_0000_0000)
-        & (w[8] < 0x1_0000_0000)
-        & (w[11] < 0x1_0000_0000);
-    nanos & (w[6] < 65536) & (w[9] < 65536)
+    })
 }
 
 // What the exchange in eighteen words measures.
+#[tactic(auto, unfolding(refusal::specs::Choice::refuse))]
 pub fn measured(w: &[u64; 18]) -> Result<(ScaledNs, Offset), Refusal>
     ensures { result ≡ measured_of w.now }
 {
-    if !exchange_fits(w) {
-        return Err(Refusal::Range);
-    }
-    delay::measure(exchange_of(w))
+    delay::measure(exchange_of(w).ok_or(Refusal::Range)?)
 }
 
 // Delay, and the offset's whole seconds and its rest.
+fn result_words(m: (ScaledNs, Offset)) -> [u64; 3]
+    ensures { result ≡ measured_words (Ok m) [] }
+{
+    let (delay, offset) = m;
+    [
+        delay.0.cast_unsigned(),
+        offset.seconds.cast_unsigned(),
+        offset.rest,
+    ]
+}
+
+// What an exchange measures.
 pub fn put_measured(out: &mut [u64; 3], m: Result<(ScaledNs, Offset), Refusal>) -> u64
     ensures answer { result ≡ measured_code m }
     ensures words { out.new ≡ measured_words m out.old }
 {
-    match m {
-        Err(x) => refusal::number(x),
-        Ok((d, o)) => {
-            let delay = octets::bits64(d.0);
-            let seconds = octets::bits64(o.seconds);
-            *out = [delay, seconds, o.rest];
-            0
-        }
-    }
+    words::put(out, m.map(result_words).map_err(refusal::number))
 }
