@@ -1,4 +1,3 @@
 pub mod Buffer
 pub mod Spread
 pub mod Determined
-pub mod Low

@@ -1,11 +1,11 @@
 -- A list of octets written out place by place, and that the octets of a number that was read are those it was read from.
-use Prim.Native.Nat.{ℕ, zero, suc, ◌+◌, ◌*◌, ◌/◌, ◌%◌, ◌≤◌, ◌<◌}
+use Prim.Native.Nat.{ℕ, zero, suc, ◌+◌, ◌*◌, ◌/◌, ◌%◌, ◌≤◌}
 use mathlib.Core.Path.{◌≡◌, refl, ap, ◌∙◌}
-use mathlib.Core.List.{List, ◌∷◌, ◌++◌, append_assoc}
+use mathlib.Core.List.{List, ◌∷◌}
 use native.Mathlib.Omega.{arith}
-use native.Mathlib.Nat.{zero-add, add-zero, add-suc}
-use lib.ListN.{length, take, drop, get_or}
-use lib.Seq.{drop-cons, take-suc}
+use native.Mathlib.Nat.{zero-add}
+use lib.ListN.{length, drop, get_or}
+use lib.Seq.{drop-cons}
 use Rattle.octets.specs.Be.{be, octets_of}
 use Rattle.octets.proofs.Laws.{Octets}
 
@@ -31,10 +31,3 @@ spread_all zero s h = refl
 spread_all (suc n) s h =
     let e : get_or s (0 + n) 0 ∷ drop (suc n) s ≡ drop n s = rw (zero-add, ← drop-cons s n 0 (omega arith)) in
     ap (spread n s 0) e ∙ spread_all n s (omega arith)
-
--- the first octets of a list, and those behind them
-pub take_spread : (n : ℕ) (s : List ℕ) (i : ℕ) (rest : List ℕ) → i + n ≤ length s → take i s ++ spread n s i rest ≡ take (i + n) s ++ rest
-take_spread zero s i rest h = rw add-zero
-take_spread (suc n) s i rest h =
-    let k : i + n < length s = omega arith in
-    take_spread n s i (get_or s (i + n) 0 ∷ rest) (omega arith) ∙ rw (add-suc, take-suc s (i + n) 0 k, append_assoc)

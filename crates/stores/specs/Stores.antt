@@ -1,5 +1,4 @@
--- What only the code needs, no rules of 01: a buffer with octets put into it, and the octets of a number with the lowest first, the order in
--- which one wide store puts them.
+-- What only the code needs, no rules of 01: a buffer with octets put into it, and the octets of a number with the lowest first.
 use Rattle.std.specs.Prelude.{ℕ, zero, suc, ◌+◌, ◌/◌, ◌%◌, List, ◌∷◌, ◌++◌, length, take, drop}
 
 -- d with the octets s in it from `at` on

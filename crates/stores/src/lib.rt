@@ -3,30 +3,10 @@
 // the crates that store them.
 //
 // Nothing is refused here: what is asked of the caller is that the buffer has the room. Of a longer number the low octets
-// go in. The octets are turned first, and then stored low ones first: the compiler makes a byte swap and one store of that,
-// where octets of the number itself would be stored one by one.
-ghost use Rattle.std.specs.Prelude.{◌≡◌, [], ◌∷◌, ◌+◌, ◌≤◌, ◌<◌, length, take};
+// go in. The compiler makes a byte swap and one store of each number.
+ghost use Rattle.std.specs.Prelude.{◌≡◌, [], ◌∷◌, ◌+◌, ◌*◌, ◌/◌, ◌≤◌, ◌<◌, length, take, drop};
 ghost use Rattle.octets.specs.Be.{octets_of};
-ghost use Rattle.stores.specs.Stores.{over, low_of};
-
-// The number whose octets, the lowest first, are the low two of v, the highest first.
-fn turned2(v: u64) -> u64
-    ensures { (low_of 2 result [] ≡ octets_of 2 v []) × (result < 65536) }
-{
-    v / 256 % 256 + v % 256 * 256
-}
-
-fn turned4(v: u64) -> u64
-    ensures { (low_of 4 result [] ≡ octets_of 4 v []) × (result < 4294967296) }
-{
-    turned2(v / 256 / 256) + turned2(v) * 65536
-}
-
-fn turned8(v: u64) -> u64
-    ensures { low_of 8 result [] ≡ octets_of 8 v [] }
-{
-    turned4(v / 256 / 256 / 256 / 256) + turned4(v) * 4294967296
-}
+ghost use Rattle.stores.specs.Stores.{over};
 
 // One octet.
 pub fn one(out: &mut [u8], at: usize, x: u8)
@@ -36,73 +16,65 @@ pub fn one(out: &mut [u8], at: usize, x: u8)
     out[at] = x;
 }
 
-// The low octets of v, the lowest first.
-fn low2(out: &mut [u8], at: usize, v: u64)
-    requires { at + 2 ≤ length out.old }
-    ensures { out.new ≡ over out.old at (low_of 2 v []) }
-{
-    one(out, at, (v % 256) as u8);
-    one(out, at + 1, (v / 256 % 256) as u8);
-}
-
-fn low4(out: &mut [u8], at: usize, v: u64)
-    requires { at + 4 ≤ length out.old }
-    ensures { out.new ≡ over out.old at (low_of 4 v []) }
-{
-    low2(out, at, v);
-    low2(out, at + 2, v / 256 / 256);
-}
-
-fn low8(out: &mut [u8], at: usize, v: u64)
-    requires { at + 8 ≤ length out.old }
-    ensures { out.new ≡ over out.old at (low_of 8 v []) }
-{
-    low4(out, at, v);
-    low4(out, at + 4, v / 256 / 256 / 256 / 256);
-}
-
 // The low octets of v, the highest first.
 pub fn two(out: &mut [u8], at: usize, v: u64)
     requires { at + 2 ≤ length out.old }
     ensures { out.new ≡ over out.old at (octets_of 2 v []) }
 {
-    low2(out, at, turned2(v))
+    out[at..at + 2].copy_from_slice(&((v & 0xffff) as u16).to_be_bytes());
 }
 
 pub fn four(out: &mut [u8], at: usize, v: u64)
     requires { at + 4 ≤ length out.old }
     ensures { out.new ≡ over out.old at (octets_of 4 v []) }
 {
-    low4(out, at, turned4(v))
+    out[at..at + 4].copy_from_slice(&((v & 0xffff_ffff) as u32).to_be_bytes());
 }
 
 pub fn six(out: &mut [u8], at: usize, v: u64)
     requires { at + 6 ≤ length out.old }
     ensures { out.new ≡ over out.old at (octets_of 6 v []) }
 {
-    two(out, at, v / 256 / 256 / 256 / 256);
-    four(out, at + 2, v);
+    out[at..at + 6].copy_from_slice(&v.to_be_bytes()[2..]);
 }
 
 pub fn eight(out: &mut [u8], at: usize, v: u64)
     requires { at + 8 ≤ length out.old }
     ensures { out.new ≡ over out.old at (octets_of 8 v []) }
 {
-    low8(out, at, turned8(v))
+    out[at..at + 8].copy_from_slice(&v.to_be_bytes());
 }
 
-// As many octets of `src` as make up whole eights go into `dst` from `at` on; how many that are.
-fn copy_eights(dst: &mut [u8], at: usize, src: &[u8]) -> usize
-    requires { at + length src.now ≤ length dst.old }
-    ensures count { (result ≤ length src.now) × (length src.now < result + 8) }
-    ensures octets { dst.new ≡ over dst.old at (take result src.now) }
+// The N octets of `src` at `from` go into `dst` at `at`, by a value between: one load and one store.
+fn copy_part<const N: usize>(dst: &mut [u8], at: usize, src: &[u8], from: usize)
+    requires into { at + N ≤ length dst.old }
+    requires of { from + N ≤ length src.now }
+    ensures { dst.new ≡ over dst.old at (take N (drop from src.now)) }
 {
-    let mut i: usize = 0;
-    while 8 <= src.len() - i {
-        eight(dst, at + i, octets::held::u64_at(src, i));
-        i += 8;
+    let part: [u8; N] = *src[from..from + N].as_array().unwrap();
+    dst[at..at + N].copy_from_slice(&part);
+}
+
+// As many octets of `src` as make up whole parts of N go into `dst` from `at` on.
+fn copy_parts<const N: usize>(dst: &mut [u8], at: usize, src: &[u8])
+    requires some { 0 < N }
+    requires room { at + length src.now ≤ length dst.old }
+    ensures { dst.new ≡ over dst.old at (take (length src.now / N * N) src.now) }
+{
+    for k in 0..src.len() / N {
+        copy_part::<N>(dst, at + k * N, src, k * N);
     }
-    i
+}
+
+// All of `src` goes into `dst` from `at` on: whole parts of N, and the last N octets once more, which overlap them.
+fn copy_by<const N: usize>(dst: &mut [u8], at: usize, src: &[u8])
+    requires some { (0 < N) × (N ≤ length src.now) }
+    requires room { at + length src.now ≤ length dst.old }
+    ensures { dst.new ≡ over dst.old at src.now }
+{
+    let rest = src.len() - N;
+    copy_parts::<N>(dst, at, src);
+    copy_part::<N>(dst, at + rest, src, rest);
 }
 
 // All of `src` goes into `dst` from `at` on, octet by octet.
@@ -110,23 +82,32 @@ fn copy_each(dst: &mut [u8], at: usize, src: &[u8])
     requires { at + length src.now ≤ length dst.old }
     ensures { dst.new ≡ over dst.old at src.now }
 {
-    let mut i: usize = 0;
-    while i < src.len() {
+    for i in 0..src.len() {
         dst[at + i] = src[i];
-        i += 1;
     }
 }
 
-// All of `src` goes into `dst` from `at` on: whole eights, and the last eight once more where some octets are left.
+// All of `src`, which is long, goes into `dst` from `at` on. It stands by itself so that a short copy pays nothing for it.
+#[inline(never)]
+fn copy_long(dst: &mut [u8], at: usize, src: &[u8])
+    requires long { 64 ≤ length src.now }
+    requires room { at + length src.now ≤ length dst.old }
+    ensures { dst.new ≡ over dst.old at src.now }
+{
+    copy_by::<64>(dst, at, src);
+}
+
+// All of `src` goes into `dst` from `at` on. A length that the compiler knows is copied in place; one `copy_from_slice` of
+// all of it would be a call, which costs more where few octets are copied.
 pub fn copy_in(dst: &mut [u8], at: usize, src: &[u8])
     requires { at + length src.now ≤ length dst.old }
     ensures { dst.new ≡ over dst.old at src.now }
 {
-    let n = src.len();
-    if n < 8 {
-        copy_each(dst, at, src);
-        return;
+    match src.len() {
+        0..8 => copy_each(dst, at, src),
+        8..16 => copy_by::<8>(dst, at, src),
+        16..32 => copy_by::<16>(dst, at, src),
+        32..64 => copy_by::<32>(dst, at, src),
+        _ => copy_long(dst, at, src),
     }
-    copy_eights(dst, at, src);
-    eight(dst, at + (n - 8), octets::held::u64_at(src, n - 8));
 }
