@@ -13,7 +13,7 @@ fn put_head(block: &mut [u8], number: u32, t: u64)
     requires { length block.old ≡ block_octets }
     ensures { block.new ≡ over block.old 2 (octets_of 4 number (octets_of 8 t [])) }
 {
-    stores::four(block, 2, number as u64);
+    stores::four(block, 2, u64::from(number));
     stores::eight(block, 6, t);
 }
 
@@ -22,7 +22,7 @@ pub fn open(block: &mut [u8; OCTETS], number: u32, t: u64)
     ensures { block.new ≡ opened_of number t }
 {
     *block = [0; OCTETS];
-    put_head(&mut block[..], number, t);
+    put_head(block, number, t);
 }
 
 // Adds a record from an octet on.
@@ -31,7 +31,7 @@ pub fn add(block: &mut [u8], at: usize, t: u64, port: u8, message: &[u8])
     ensures { block.new ≡ added_to block.old at (record { time = t; port = port; message = message.now }) }
 {
     let n = crate::count(block);
-    stores::two(block, 14, n as u64 + 1);
+    stores::two(block, 14, u64::from(n) + 1);
     stores::eight(block, at, t);
     stores::one(block, at + 8, port);
     stores::two(block, at + 9, message.len() as u64);
@@ -42,9 +42,9 @@ pub fn add(block: &mut [u8], at: usize, t: u64, port: u8, message: &[u8])
 pub fn seal(block: &[u8; OCTETS], out: &mut [u8; OCTETS])
     ensures { out.new ≡ sealed block.now }
 {
-    stores::copy_in(&mut out[..], 0, &block[..]);
-    let first = octets::held::u16_at(&block[..], 0);
-    let others = crate::sums::remainder(&block[..]) + 65535 - first as u64;
+    *out = *block;
+    let first = octets::held::u16_at(block, 0);
+    let others = crate::sums::remainder(block) + 65535 - u64::from(first);
     let check = 65535 - crate::sums::folded(others);
-    stores::two(&mut out[..], 0, check);
+    stores::two(out, 0, check);
 }

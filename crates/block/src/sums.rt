@@ -8,20 +8,13 @@ use crate::OCTETS;
 // The fours of a block.
 const FOURS: usize = OCTETS / 4;
 
-// A number by its octets, the lowest first.
-fn low(a: u8, b: u8, c: u8, d: u8) -> u32
-    ensures { result ≡ a + b * 256 + c * 65536 + d * 16777216 }
-{
-    a as u32 + b as u32 * 256 + c as u32 * 65536 + d as u32 * 16777216
-}
-
 // Four octets as a number, the lowest first, which is one load. By 65,535 what is 65,536 times a number leaves what the number leaves: so 256 times this one
 // leaves what the two words leave, whose octets are the other way round.
 fn four_at(s: &[u8], at: usize) -> u32
     requires { at + 4 ≤ length s.now }
     ensures { 256 * result % 65535 ≡ sum_from 2 s.now at % 65535 }
 {
-    low(s[at], s[at + 1], s[at + 2], s[at + 3])
+    u32::from_le_bytes([s[at], s[at + 1], s[at + 2], s[at + 3]])
 }
 
 // What a number leaves by 65,535: its 16-bit words are added until they are one, since 65,536 leaves 1.
@@ -39,11 +32,9 @@ pub fn remainder(s: &[u8]) -> u64
     requires { length s.now ≡ block_octets }
     ensures { result ≡ sum_of s.now % 65535 }
 {
-    let mut v: u64 = 0;
-    let mut k: usize = 0;
-    while k < FOURS {
-        v += four_at(s, 4 * k) as u64;
-        k += 1;
+    let mut v = 0;
+    for k in 0..FOURS {
+        v += u64::from(four_at(s, 4 * k));
     }
     folded(v << 8)
 }

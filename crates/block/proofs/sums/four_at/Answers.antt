@@ -7,4 +7,4 @@ use Rattle.block.proofs.sums.four_at.Goals as goal
 pub returns : goal.returns
 returns c =
     let a = c.args in
-    ap (λ (r : ℕ). 256 * r % 65535) c.low.ensures ∙ low_words a.s.now a.at
+    ap (λ (r : ℕ). 256 * r % 65535) c.from_le_bytes.ensures ∙ low_words a.s.now a.at

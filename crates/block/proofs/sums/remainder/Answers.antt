@@ -9,12 +9,12 @@ use Rattle.block.proofs.sums.remainder.Goals as goal
 
 pub loop-k-preserved : goal.loop-k-preserved
 loop-k-preserved c =
-    (omega arith, omega arith, omega (arith, sum_more c.args.s.now c.loop-k.k (omega arith)))
+    (omega arith, omega (arith, sum_more c.args.s.now c.loop-k.k (omega arith)))
 
 pub returns : goal.returns
 returns c =
     let e : c.loop-k.k ≡ 128 = omega arith in
     -- 256 times the sum is a shift that loses nothing
     let s : c.loop-k.v * 256 % 2 ^ 64 ≡ 256 * c.loop-k.v = omega arith in
-    let h = rw (e, sum_none, add-zero) at c.loop-k.invariant.2 in
+    let h = rw (e, sum_none, add-zero) at c.loop-k.invariant.1 in
     c.folded.ensures ∙ ap (λ (t : ℕ). t % 65535) (omega (arith, s)) ∙ h

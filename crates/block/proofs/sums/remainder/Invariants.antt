@@ -6,7 +6,4 @@ use Rattle.block.specs.Check.{sum_from, sum_of}
 use Rattle.block.proofs.sums.remainder.Given as goal
 
 abbrev pub invariant-loop-k : goal.invariant-loop-k
-invariant-loop-k l = (l.k ≤ 128) × (l.v ≤ 4294967295 * l.k) × ((256 * l.v + sum_from (256 - 2 * l.k) l.s (4 * l.k)) % 65535 ≡ sum_of l.s % 65535)
-
-abbrev pub decreases-loop-k : goal.decreases-loop-k
-decreases-loop-k l = 128 - l.k
+invariant-loop-k l = (l.v ≤ 4294967295 * l.k) × ((256 * l.v + sum_from (256 - 2 * l.k) l.s (4 * l.k)) % 65535 ≡ sum_of l.s % 65535)
