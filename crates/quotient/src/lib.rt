@@ -25,7 +25,7 @@ fn digit(v: u64, half: u64, less: u64) -> u64
     if v < half {
         twice
     } else {
-        std::num::wrapping_add_u64(twice, less)
+        twice.wrapping_add(less)
     }
 }
 
@@ -37,11 +37,9 @@ pub fn divided(n: u64, q: u64, digits: u64) -> Part
 {
     let high = q << digits;
     let half = high >> 1;
-    let less = std::num::wrapping_sub_u64(1, high);
+    let less = 1_u64.wrapping_sub(high);
     let mut v = n;
-    let mut i = digits;
-    while 0 < i {
-        i -= 1;
+    for _ in 0..digits {
         v = digit(v, half, less);
     }
     let rest = v >> digits;
@@ -160,8 +158,7 @@ pub fn thousandth(n: u64) -> u64
 fn last(y: u64, p: u64) -> u64
     ensures { (result ≡ y % 2 * p) × (result ≤ p) }
 {
-    let half = y >> 1;
-    if y == half + half { 0 } else { p }
+    if y % 2 == 0 { 0 } else { p }
 }
 
 // k times n, a digit of k at a time, from the last one on; zeros at the front of k take no step.
@@ -175,7 +172,7 @@ pub fn times(k: u64, n: u64) -> u64
     while 0 < left {
         sum += last(left, unit);
         unit += unit;
-        left = left >> 1;
+        left >>= 1;
     }
     sum
 }

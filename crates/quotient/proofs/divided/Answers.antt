@@ -31,33 +31,32 @@ ended n q digits half v is fits lt d =
     let k = back n q D half v is fits lt in
     (ap (λ (x : ℕ). v - x) k ∙ sym s ∙ w, r)
 
-pub loop-i-init : goal.loop-i-init
-loop-i-init c =
+pub loop-init : goal.loop-init
+loop-init c =
     let a = c.args in
     let h = high_even a.q a.digits c.requires.2 c.requires.1 in
     let m = shifted a.q (2 ^ a.digits) (omega arith) in
-    let z : a.digits - a.digits ≡ 0 = omega arith in
-    (record { is = h; less-is = omega arith }, subst (λ (j : ℕ). Dealt a.n (2 * half_of a.q a.digits - 1) j a.n) (sym z) (begun a.n (2 * half_of a.q a.digits - 1)), omega arith, omega arith)
+    (record { is = h; less-is = omega arith }, begun a.n (2 * half_of a.q a.digits - 1), omega arith)
 
 pub digit-v-requires : goal.digit-v-requires
 digit-v-requires c =
-    let h = c.loop-i.invariant.0 in (c.loop-i.invariant.2, omega (arith, h.is), h.less-is)
+    let h = c.loop.invariant.0 in (c.loop.invariant.2, omega (arith, h.is), h.less-is)
 
-pub loop-i-preserved : goal.loop-i-preserved
-loop-i-preserved c =
-    let l = c.loop-i in
+pub loop-preserved : goal.loop-preserved
+loop-preserved c =
+    let l = c.loop in
     let a = c.args in
-    let h = l.invariant.0 in
-    let half = half_of a.q a.digits in
-    let e : a.digits - l.i + 1 ≡ a.digits - (l.i - 1) = omega arith in
-    let d = more a.n (2 * half - 1) (a.digits - l.i) l.v (l.v / half) c.digit-v.result l.invariant.1 c.digit-v.ensures.0 (at_most_once l.v half l.invariant.2) in
-    (h, subst (λ (j : ℕ). Dealt a.n (2 * half - 1) j c.digit-v.result) e d, c.digit-v.ensures.1, omega arith)
+    let half = half_of a.q a.digits in (
+      l.invariant.0,
+      more a.n (2 * half - 1) l.counter l.v (l.v / half) c.digit-v.result l.invariant.1 c.digit-v.ensures.0 (at_most_once l.v half l.invariant.2),
+      c.digit-v.ensures.1,
+    )
 
 pub returns : goal.returns
 returns c =
     let a = c.args in
-    let l = c.loop-i in
+    let l = c.loop in
     let half = half_of a.q a.digits in
-    let e : a.digits - l.i ≡ a.digits = omega arith in
+    let e : l.counter ≡ a.digits = omega arith in
     ended a.n a.q a.digits half l.v l.invariant.0.is (omega arith) l.invariant.2
     (subst (λ (j : ℕ). Dealt a.n (2 * half - 1) j l.v) e l.invariant.1)

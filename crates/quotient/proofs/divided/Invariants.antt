@@ -1,5 +1,5 @@
 -- `divided` meets its contract: every digit doubles what n was, less the digits of the quotient so far times the divisor.
-use Rattle.std.proofs.Common.{◌≡◌, ℕ, ◌+◌, ◌-◌, ◌*◌, ◌^◌, ◌<◌, ◌≤◌}
+use Rattle.std.proofs.Common.{◌≡◌, ℕ, ◌+◌, ◌-◌, ◌*◌, ◌^◌, ◌<◌}
 use Rattle.quotient.proofs.Laws.{Dealt}
 use Rattle.quotient.proofs.divided.Given as goal
 
@@ -8,8 +8,5 @@ pub record High (q digits half less : ℕ) : Type 0 where
   pub is : 2 * half ≡ q * 2 ^ digits
   pub less-is : less + 2 * half ≡ 2 ^ 64 + 1
 
-abbrev pub invariant-loop-i : goal.invariant-loop-i
-invariant-loop-i l = High l.q l.digits l.half l.less × Dealt l.n (2 * l.half - 1) (l.digits - l.i) l.v × (l.v < 2 * l.half) × (l.i ≤ l.digits)
-
-abbrev pub decreases-loop-i : goal.decreases-loop-i
-decreases-loop-i l = l.i
+abbrev pub invariant-loop : goal.invariant-loop
+invariant-loop l = High l.q l.digits l.half l.less × Dealt l.n (2 * l.half - 1) l.counter l.v × (l.v < 2 * l.half)
