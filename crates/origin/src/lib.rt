@@ -18,9 +18,7 @@ fn is_of(sync: &[u8], follow: &[u8]) -> bool
 {
     let a = message::fields::header_of(sync);
     let b = message::fields::header_of(follow);
-    let p = a.source;
-    let q = b.source;
-    (p.clock == q.clock) & (p.port == q.port) & (a.domain == b.domain) & (a.sequence == b.sequence)
+    a.source == b.source && a.domain == b.domain && a.sequence == b.sequence
 }
 
 // The checks of the Follow_Up of a two-step Sync.
@@ -28,15 +26,11 @@ fn follow_says(sync: &[u8], follow: &[u8], magic: u16) -> Result<(), Refusal>
     requires { 34 ≤ length sync.now }
     ensures { result ≡ follow_check magic sync.now follow.now }
 {
-    match message::reading::takes(follow, FOLLOW_UP, magic) {
-        Err(x) => Err(x),
-        Ok(()) => {
-            if is_of(sync, follow) {
-                Ok(())
-            } else {
-                Err(Refusal::Type)
-            }
-        }
+    message::reading::takes(follow, FOLLOW_UP, magic)?;
+    if is_of(sync, follow) {
+        Ok(())
+    } else {
+        Err(Refusal::Type)
     }
 }
 
@@ -52,15 +46,11 @@ fn is_two_step(sync: &[u8]) -> bool
 pub fn origin_says(sync: &[u8], follow: &[u8], magic: u16) -> Result<(), Refusal>
     ensures { result ≡ origin_check magic sync.now follow.now }
 {
-    match message::reading::takes(sync, SYNC, magic) {
-        Err(x) => Err(x),
-        Ok(()) => {
-            if is_two_step(sync) {
-                follow_says(sync, follow, magic)
-            } else {
-                Ok(())
-            }
-        }
+    message::reading::takes(sync, SYNC, magic)?;
+    if is_two_step(sync) {
+        follow_says(sync, follow, magic)
+    } else {
+        Ok(())
     }
 }
 

@@ -10,8 +10,8 @@ ghost use Rattle.writer.specs.Writing.{write_check, buffer_of};
 ghost use Rattle.wr_tlvs.specs.Built.{link_octets, signaling};
 
 use identity::PortIdentity;
-use refusal::Refusal;
 use message::fields::{Header, Message};
+use refusal::Refusal;
 use tlv::wr::LinkMessage;
 
 // A message written and read again: it comes back as it was, or with the number that refused to write it.
@@ -19,10 +19,8 @@ pub fn again(out: &mut [u8], m: Message, tail: &[u8], magic: u16) -> Result<Mess
     ensures answer { result ≡ by (write_check magic m tail.now (length out.old)) Err (Ok m) }
     ensures buffer { out.new ≡ buffer_of magic m tail.now out.old }
 {
-    match writer::writing::write(out, m, tail, magic) {
-        Err(x) => Err(x),
-        Ok(_) => contents::whole::read(&out[..], magic),
-    }
+    writer::writing::write(out, m, tail, magic)?;
+    contents::whole::read(&out[..], magic)
 }
 
 // A link message sent in a Signaling and read again.
@@ -36,8 +34,6 @@ pub fn link_again(
     ensures answer { result ≡ by (write_check magic (signaling header target) (link_octets magic x) (length out.old)) Err (Ok (Some x)) }
     ensures buffer { out.new ≡ buffer_of magic (signaling header target) (link_octets magic x) out.old }
 {
-    match wr_tlvs::write_link(out, header, target, x, magic) {
-        Err(y) => Err(y),
-        Ok(_) => contents::parts::link_message(&out[..], magic),
-    }
+    wr_tlvs::write_link(out, header, target, x, magic)?;
+    contents::parts::link_message(&out[..], magic)
 }

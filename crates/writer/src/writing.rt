@@ -13,7 +13,7 @@ use refusal::Refusal;
 fn stamp_fits(t: Timestamp) -> bool
     ensures { result ≡ stamp_fits t }
 {
-    (t.seconds < 0x1_0000_0000_0000) & (t.nanoseconds < refusal::SECOND_NANOS)
+    t.seconds < 0x1_0000_0000_0000 && t.nanoseconds < refusal::SECOND_NANOS
 }
 
 // The same of a message, by its type; a Signaling has no timestamp.
@@ -21,9 +21,7 @@ fn body_fits(b: Body) -> bool
     ensures { result ≡ body_fits b }
 {
     match b {
-        Body::Sync(t) => stamp_fits(t),
-        Body::DelayReq(t) => stamp_fits(t),
-        Body::FollowUp(t) => stamp_fits(t),
+        Body::Sync(t) | Body::DelayReq(t) | Body::FollowUp(t) => stamp_fits(t),
         Body::DelayResp(r) => stamp_fits(r.receive),
         Body::Announce(a) => stamp_fits(a.origin),
         Body::Signaling(_) => true,
@@ -56,16 +54,11 @@ fn check(m: Message, tail: &[u8], magic: u16, room: usize) -> Result<(), Refusal
     if tail.len() > 65535 - size {
         return Err(Refusal::Field);
     }
-    match message::reading::tail_check(tail, size, magic) {
-        Err(_) => Err(Refusal::Field),
-        Ok(()) => {
-            if room < size + tail.len() {
-                Err(Refusal::Room)
-            } else {
-                Ok(())
-            }
-        }
+    message::reading::tail_check(tail, size, magic).or(Err(Refusal::Field))?;
+    if room < size + tail.len() {
+        return Err(Refusal::Room);
     }
+    Ok(())
 }
 
 // A message and its tail go into the front of the buffer.
@@ -73,17 +66,13 @@ pub fn write(out: &mut [u8], m: Message, tail: &[u8], magic: u16) -> Result<usiz
     ensures answer { result ≡ write_of magic m tail.now out.old }
     ensures buffer { out.new ≡ buffer_of magic m tail.now out.old }
 {
-    match check(m, tail, magic, out.len()) {
-        Err(x) => Err(x),
-        Ok(()) => {
-            let b = m.body;
-            let h = m.header;
-            let size = message::fields::fixed_size(layout::kind_of(b));
-            let n = size + tail.len();
-            layout::put_header(out, h, b, n as u16);
-            layout::put_body(out, b);
-            stores::copy_in(out, size, tail);
-            Ok(n)
-        }
-    }
+    check(m, tail, magic, out.len())?;
+    let b = m.body;
+    let h = m.header;
+    let size = message::fields::fixed_size(layout::kind_of(b));
+    let n = size + tail.len();
+    layout::put_header(out, h, b, n as u16);
+    layout::put_body(out, b);
+    stores::copy_in(out, size, tail);
+    Ok(n)
 }

@@ -30,15 +30,15 @@ body_range (body.Signaling p) vs h = search rules
 range : (c : goal.After-read) → MessageRange c.args.m
 range c = record { header = header_range c; body = body_range c.args.m.body c.well_formed.1.0.0.1.0 c.well_formed.1.0.1.1.1.0 }
 
-pub returns-in-Err-clause-answer : goal.returns-in-Err-clause-answer
-returns-in-Err-clause-answer c =
+pub returns-in_err-write-clause-answer : goal.returns-in_err-write-clause-answer
+returns-in_err-write-clause-answer c =
     let a = c.args in
-    not_written a.magic a.m a.tail.now a.out.now Err (Ok a.m) (sym c.write.ensures.answer ∙ c.in-Err.is)
+    rw (← not_written a.magic a.m a.tail.now a.out.now Err (Ok a.m) (sym c.write.ensures.answer ∙ c.in_err-write.was)) (search rules)
 
-pub returns-in-Ok-clause-answer : goal.returns-in-Ok-clause-answer
-returns-in-Ok-clause-answer c =
+pub returns-clause-answer : goal.returns-clause-answer
+returns-clause-answer c =
     let a = c.args in
-    let e = sym c.write.ensures.answer ∙ c.in-Ok.is in
+    let e = sym c.write.ensures.answer ∙ c.in_ok-write.was in
     c.read.ensures
     ∙ ap (read_of a.magic) c.write.ensures.buffer
     ∙ (buffer_back a.magic a.m a.tail.now (range c) a.out.now _ e).0.message

@@ -28,16 +28,18 @@ link_range (Calibrate pattern retry period) vs h = search rules
 link_range (Calibrated tx rx) vs h = search rules
 link_range ModeOn vs h = tt
 
-pub returns-in-Err-clause-answer : goal.returns-in-Err-clause-answer
-returns-in-Err-clause-answer c =
+pub returns-in_err-write_link-clause-answer : goal.returns-in_err-write_link-clause-answer
+returns-in_err-write_link-clause-answer c =
     let a = c.args in
-    not_written a.magic (signaling a.header a.target) (link_octets a.magic a.x) a.out.now Err (Ok (Some a.x))
-    (sym c.write_link.ensures.answer ∙ c.in-Err.is)
+    rw (
+      ← not_written a.magic (signaling a.header a.target) (link_octets a.magic a.x) a.out.now Err (Ok (Some a.x))
+          (sym c.write_link.ensures.answer ∙ c.in_err-write_link.was),
+    ) (search rules)
 
-pub returns-in-Ok-clause-answer : goal.returns-in-Ok-clause-answer
-returns-in-Ok-clause-answer c =
+pub returns-clause-answer : goal.returns-clause-answer
+returns-clause-answer c =
     let a = c.args in
-    let e = sym c.write_link.ensures.answer ∙ c.in-Ok.is in
+    let e = sym c.write_link.ensures.answer ∙ c.in_ok-write_link.was in
     c.link_message.ensures
     ∙ ap (link_of a.magic) c.write_link.ensures.buffer
     ∙ link_back a.magic (small c) a.header a.target a.x a.out.now _ (link_range a.x _ c.well_formed.1.1.1.0) e
