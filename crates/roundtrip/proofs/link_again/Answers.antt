@@ -31,10 +31,10 @@ link_range ModeOn vs h = tt
 pub returns-in_err-write_link-clause-answer : goal.returns-in_err-write_link-clause-answer
 returns-in_err-write_link-clause-answer c =
     let a = c.args in
-    rw (
-      ← not_written a.magic (signaling a.header a.target) (link_octets a.magic a.x) a.out.now Err (Ok (Some a.x))
-          (sym c.write_link.ensures.answer ∙ c.in_err-write_link.was),
-    ) (search rules)
+    let e =
+    not_written a.magic (signaling a.header a.target) (link_octets a.magic a.x) a.out.now Err (Ok (Some a.x))
+    (sym c.write_link.ensures.answer ∙ c.in_err-write_link.was) in
+    rw (← e) (search rules)
 
 pub returns-clause-answer : goal.returns-clause-answer
 returns-clause-answer c =
