@@ -12,14 +12,14 @@ ghost use Rattle.words.specs.Words.{port_of, returned, lent};
 pub fn word_of_i8(octet: i8) -> u64
     ensures { result ≡ of_z w64 octet }
 {
-    octets::bits64(octet as i64)
+    i64::from(octet).cast_unsigned()
 }
 
 // A signed number of two octets as a word.
 pub fn word_of_i16(x: i16) -> u64
     ensures { result ≡ of_z w64 x }
 {
-    octets::bits64(x as i64)
+    i64::from(x).cast_unsigned()
 }
 
 // The port that a word names, 0 where it is none of 1 to 18.
