@@ -107,7 +107,7 @@ module _ (trace : List ℕ) where
 
     -- .. AND A LINE THAT HOLDS IS THE NUMBER GIVEN
     pub when_export : {n : ℕ} → ExportWhen room trace n → written_code (export_of room trace) ≡ n
-    when_export (no_trace w) = ap written_code (exported.not_trace trace room (exported.stopped trace Block (when_twenty trace w)))
+    when_export (no_trace w) = ap written_code (exported.not_trace trace room (exported.stopped trace Block (when_twenty trace w)).0)
     when_export (unwritable w u) = ap written_code (exported.not_written trace room (is_trace_lem w) (unfit_some (port_of (records_of trace)) u))
     when_export (no_room w f h) = ap written_code (exported.no_room trace room (is_trace_lem w) (fit_all (port_of (records_of trace)) (records_of trace) f) h)
     when_export (written w f h) = ap written_code (exported.exported trace room (is_trace_lem w) (fit_all (port_of (records_of trace)) (records_of trace) f) h)

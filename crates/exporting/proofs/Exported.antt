@@ -21,13 +21,13 @@ use Rattle.exporting.proofs.Writable.{weighs}
 
 -- ---- A WHOLE TRACE
 -- replay refuses it
-stopped_by : (b : Bool) (t : ℕ) (x : Refusal) → refuse (not b) (Err Block) (Ok t) ≡ Err x → b ≡ false
+stopped_by : (b : Bool) (t : ℕ) (x : Refusal) → refuse (not b) (Err Block) (Ok t) ≡ Err x → (b ≡ false) × (x ≡ Block)
 unfolding refuse
-stopped_by true t x e = cc
-stopped_by false t x e = refl
+stopped_by true t x e = (cc, cc)
+stopped_by false t x e = (refl, cc)
 
 module _ (trace : List ℕ) where
-  pub stopped : (x : Refusal) → replay_of trace ≡ Err x → is_trace trace ≡ false
+  pub stopped : (x : Refusal) → replay_of trace ≡ Err x → (is_trace trace ≡ false) × (x ≡ Block)
   stopped x e = stopped_by (is_trace trace) _ x e
 
   pub not_trace : (room : ℕ) → is_trace trace ≡ false → export_of room trace ≡ Err Block

@@ -1,17 +1,17 @@
 -- Packets one behind the other: how many octets they have, and that those of two runs of records are those of the first and then those of the second.
-use Prim.Native.Nat.{ℕ, zero, suc, ◌+◌, ◌-◌, ◌*◌, ◌≤◌, ◌<◌}
+use Prim.Native.Nat.{ℕ, zero, suc, ◌+◌, ◌*◌, ◌≤◌}
 use mathlib.Core.Path.{◌≡◌, refl, sym, ap, ◌∙◌}
 use mathlib.Core.List.{List, [], ◌∷◌, ◌++◌, append_assoc}
 use mathlib.Core.Bool.{true, ◌&&◌}
 use native.Mathlib.Omega.{arith}
 use lib.Dec.{leb}
-use lib.ListN.{length, take, drop, length-append, length-drop}
+use lib.ListN.{length, drop, length-append, length-drop}
 use lib.Seq.{length-take-le}
 use borrow.Author.Tests.{leb-true}
 use Rattle.laws.proofs.Bools.{both}
 use Rattle.octets.proofs.Laws.{Octets}
 use Rattle.refusal.specs.Limits.{is_port}
-use Rattle.block.specs.Layout.{Entry, count_of, time_at, port_at, entry_at, end_at, length_at, message_at, entries_from, entries_of}
+use Rattle.block.specs.Layout.{Entry, count_of, port_at, end_at, length_at, message_at, entries_from, entries_of}
 use Rattle.block.specs.Making.{sizes_of}
 use Rattle.block.proofs.Made.{sizes_count}
 use Rattle.stores.specs.Stores.{over}
@@ -67,40 +67,20 @@ block_packets s h =
     let z = entries_size (count_of s) s 16 k.whole (omega arith) k.records in
     omega (arith, z.0, packets_length (entries_of s), sizes_count (entries_of s))
 
--- of n records i are passed, and the next one begins at `at`
-module _ (s : List ℕ) (at n i : ℕ) (h : i < n) where
-  -- its packet, and those behind it
-  pub packets_on : packets_of (entries_from (n - i) s at) ≡ packet_in our_form (packet_by (entry_at s at)) [] ++ packets_of (entries_from (n - (i + 1)) s (end_at s at))
-  unfolding packets_in entries_from
-  packets_on =
-      let k : n - i ≡ suc (n - (i + 1)) = omega arith in
-      rw k (sym (packet_append (time_at s at) (message_at s at) [] (packets_of (entries_from (n - (i + 1)) s (end_at s at)))))
+-- ---- A RECORD MORE
+module _ (e : Entry) (es : List Entry) where
+  pub packets_left : length (packets_of (e ∷ es)) ≡ 30 + length e.message + length (packets_of es)
+  unfolding packets_in
+  packets_left = packet_length e.time e.message (packets_of es)
 
-  module _ (whole : length s ≡ 512) (end : ℕ) (is : end ≡ end_at s at) (inside : end ≤ 512) where
-    -- its octets: those of the record and 19
-    pub packets_left : length (packets_of (entries_from (n - i) s at)) ≡ end - at + 19 + length (packets_of (entries_from (n - (i + 1)) s end))
-    packets_left =
-        let rest = packets_of (entries_from (n - (i + 1)) s (end_at s at)) in
-        let all : length (packets_of (entries_from (n - i) s at)) ≡ 30 + length (message_at s at) + length rest =
-        ap length packets_on ∙ ap length (packet_append (time_at s at) (message_at s at) [] rest) ∙ packet_length (time_at s at) (message_at s at) rest in
-        let same : length rest ≡ length (packets_of (entries_from (n - (i + 1)) s end)) = ap (λ (e : ℕ). length (packets_of (entries_from (n - (i + 1)) s e))) (sym is) in
-        omega (arith, all, same, message_length s at whole (omega arith))
-
-    -- it was put, and then those behind it are
-    pub packet_put : (o o' : List ℕ) (to t : ℕ) → to ≤ length o → t ≡ time_at s at
-        → o' ≡ over o to (packet_in our_form (packet_for t (take (end - (at + 11)) (drop (at + 11) s))) [])
-        → over o' (to + (end - at + 19)) (packets_of (entries_from (n - (i + 1)) s end)) ≡ over o to (packets_of (entries_from (n - i) s at))
-    packet_put o o' to t room et put =
-        let x = packet_in our_form (packet_by (entry_at s at)) [] in
-        let y = packets_of (entries_from (n - (i + 1)) s (end_at s at)) in
-        let l : end - (at + 11) ≡ length_at s at = omega arith in
-        let k : to + (end - at + 19) ≡ to + length x = omega (arith, packet_length (time_at s at) (message_at s at) [], message_length s at whole (omega arith)) in
-        put_two o to room x y k
-        (λ j. packet_in our_form (packet_for (et j) (take (l j) (drop (at + 11) s))) [])
-        (λ j. packets_of (entries_from (n - (i + 1)) s (is j)))
-        put
-        refl
-        ∙ ap (over o to) (sym packets_on)
+  -- its packet was put, and then those behind it are
+  pub packet_put : (o o' : List ℕ) (to : ℕ) → to ≤ length o → o' ≡ over o to (packet_in our_form (packet_for e.time e.message) [])
+      → over o' (to + (30 + length e.message)) (packets_of es) ≡ over o to (packets_of (e ∷ es))
+  unfolding packets_in
+  packet_put o o' to room put =
+      let x = packet_in our_form (packet_by e) [] in
+      let k : to + (30 + length e.message) ≡ to + length x = omega (arith, packet_length e.time e.message []) in
+      put_two o to room x (packets_of es) k refl refl put refl ∙ ap (over o to) (packet_append e.time e.message [] (packets_of es))
 
 -- ---- THOSE OF SEVERAL BLOCKS
 module _ (b : List ℕ) (bs : List (List ℕ)) where

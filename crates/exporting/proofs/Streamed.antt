@@ -1,13 +1,12 @@
 -- A TRACE IN ONE CALL AND BLOCK BY BLOCK AGREE: some block is refused on the way exactly where the trace is refused with 20 or 22, and where none is, the head
 -- and what is put for the blocks are the capture.
 use Rattle.std.specs.Prelude.{Result, Ok, Err}
-use Prim.Native.Nat.{ℕ, ◌+◌, ◌-◌, ◌≤◌, ◌<◌}
+use Prim.Native.Nat.{ℕ, ◌+◌, ◌≤◌, ◌<◌}
 use mathlib.Core.Path.{◌≡◌, refl, sym, ap, ◌∙◌}
 use mathlib.Core.List.{List, [], ◌∷◌, ◌++◌}
 use mathlib.Core.Bool.{Bool, true, false, ◌&&◌, and-false}
 use mathlib.Core.Logic.{◌⊎◌, inl, inr}
 use native.Mathlib.Omega.{arith}
-use native.Mathlib.Nat.{sub-zero}
 use lib.Dec.{eqb, ltb}
 use lib.ListN.{length, take, drop, length-append, length-drop}
 use lib.Seq.{take-append_seam}
@@ -18,9 +17,10 @@ use Rattle.refusal.specs.declared.Refusal.TheVariants.{Block, Export, Room}
 use Rattle.refusal.proofs.Limits.{port_bounds}
 use Rattle.stores.specs.Stores.{over}
 use Rattle.block.specs.Layout.{Entry, count_of, port_at, entries_of}
-use Rattle.judging.specs.Tests.{laid_from, is_laid, reader_after}
+use Rattle.judging.specs.Tests.{is_laid, reader_after}
 use Rattle.judging.specs.declared.Reader.{Reader}
-use Rattle.judging.proofs.TestLaws.{laid, laid_on}
+use Rattle.judging.proofs.TestLaws.{laid}
+use Rattle.judging.proofs.Passed.{one_laid}
 use Rattle.playback.specs.Playback.{accepts, accepts_all, entries_of_all, blocks_in, fresh_reader, is_trace}
 use Rattle.playback.proofs.Blocks.{all_laid}
 use Rattle.pcap.specs.Written.{packets_in, head_in, our_form, our_fields}
@@ -46,9 +46,7 @@ module _ (b : List ℕ) (l : is_laid b ≡ true) where
   first_is : 0 < port_at b 16
   first_is =
       let k = laid b l in
-      let all : laid_from (count_of b - 0) b 16 ≡ true = rw sub-zero k.records in
-      let w = laid_on b 16 (count_of b) 0 (omega arith) all in
-      omega (arith, port_bounds (port_at b 16) w.1)
+      omega (arith, port_bounds (port_at b 16) (one_laid b 16 (count_of b) (omega arith) k.records).port)
 
   -- so that what follows does not matter, and behind it there is a port
   port_same : (port : ℕ) (fs : List Entry) → port_from port (entries_of b ++ fs) ≡ port_from port (entries_of b)

@@ -6,21 +6,21 @@ use mathlib.Core.List.{List, [], ◌∷◌, ◌++◌, append-nil}
 use mathlib.Core.Bool.{Bool, true, false, ◌&&◌, and_assoc}
 use native.Mathlib.Omega.{arith}
 use native.Mathlib.Nat.{add-zero, zero-add}
-use lib.Dec.{eqb, ltb}
+use lib.Dec.{ltb}
 use lib.ListN.{length, take, drop, length-take}
 use lib.Seq.{get_or-take}
 use borrow.Author.Tests.{lt-ltb, le-ltb, ltb-true, ltb-false}
 use Rattle.laws.proofs.Bools.{cases}
 use Rattle.refusal.specs.Choice.{pick}
 use Rattle.refusal.specs.Limits.{second_nanos}
-use Rattle.block.specs.Layout.{Entry, count_of, time_at, port_at, end_at, entry_at, entries_from, entries_of}
+use Rattle.block.specs.Layout.{Entry, count_of, port_at, entries_from, entries_of}
 use Rattle.judging.specs.Tests.{is_laid}
 use Rattle.judging.proofs.TestLaws.{laid}
 use Rattle.playback.specs.Playback.{entries_of_all, blocks_in, fresh_reader, is_trace}
-use Rattle.playback.proofs.Blocks.{blocks_end, blocks_more, all_laid, AllLaid}
+use Rattle.playback.proofs.Blocks.{blocks_end, blocks_first, all_laid, AllLaid}
 use Rattle.pcap.specs.Written.{packets_in}
 use Rattle.exporting.specs.Exporting.{packets_of, port_of, is_writable, are_writable, weight_of, records_of}
-use Rattle.exporting.proofs.Packets.{packet_length, message_length, blocks_length}
+use Rattle.exporting.proofs.Packets.{packet_length, blocks_length}
 
 -- the nanoseconds of 2^32 seconds
 pub seconds_fit : (t : ℕ) → ltb t 4294967296000000000 ≡ ltb (t / second_nanos) 4294967296
@@ -28,11 +28,6 @@ seconds_fit t =
     cases (ltb t 4294967296000000000)
     (λ y. y ∙ sym (lt-ltb (t / second_nanos) 4294967296 (omega (arith, ltb-true t 4294967296000000000 y))))
     (λ n. n ∙ sym (le-ltb (t / second_nanos) 4294967296 (omega (arith, ltb-false t 4294967296000000000 n))))
-
--- a record that was read, and tested as r
-pub writable_read : (s : List ℕ) (port at t its : ℕ) {r : Bool} → r ≡ (eqb its port && ltb (t / second_nanos) 4294967296) → its ≡ port_at s at → t ≡ time_at s at
-    → is_writable port (entry_at s at) ≡ r
-writable_read s port at t its e p q = sym (e ∙ (λ i. eqb (p i) port && ltb (q i / second_nanos) 4294967296))
 
 -- ---- WHAT IS WEIGHED
 -- behind packets of so many octets
@@ -47,26 +42,18 @@ pub weight_end : (total port : ℕ) → Some total ≡ weight_by total port []
 unfolding are_writable packets_in
 weight_end total port = rw add-zero
 
--- of n records i are passed, and the next one begins at `at`
-module _ (s : List ℕ) (total port at n i : ℕ) (h : i < n) where
-  -- it cannot be written
-  pub weight_stop : is_writable port (entry_at s at) ≡ false → None ≡ weight_by total port (entries_from (n - i) s at)
-  unfolding entries_from are_writable
-  weight_stop e =
-      let k : n - i ≡ suc (n - (i + 1)) = omega arith in
-      rw (k, e)
+-- the next record cannot be written; or it can, and is weighed
+module _ (total port : ℕ) (e : Entry) (es : List Entry) where
+  pub weight_stop : is_writable port e ≡ false → None ≡ weight_by total port (e ∷ es)
+  unfolding are_writable
+  weight_stop f = rw f
 
-  -- it can be, and is weighed
-  pub weight_more : is_writable port (entry_at s at) ≡ true → length s ≡ 512 → (end : ℕ) → end ≡ end_at s at → end ≤ 512
-      → weight_by (total + (end - at + 19)) port (entries_from (n - (i + 1)) s end) ≡ weight_by total port (entries_from (n - i) s at)
-  unfolding entries_from are_writable packets_in
-  weight_more e whole end is inside =
-      let k : n - i ≡ suc (n - (i + 1)) = omega arith in
-      let es = entries_from (n - (i + 1)) s (end_at s at) in
-      let x = entry_at s at in
-      let l : total + (end_at s at - at + 19) + length (packets_of es) ≡ total + length (packets_of (x ∷ es)) =
-      omega (arith, message_length s at whole (omega arith), packet_length x.time x.message (packets_of es)) in
-      rw (is, k, e) (ap (λ (m : ℕ). pick (are_writable port es) (Some m) None) l)
+  pub weight_more : is_writable port e ≡ true → weight_by (total + (30 + length e.message)) port es ≡ weight_by total port (e ∷ es)
+  unfolding are_writable packets_in
+  weight_more f =
+      let l : total + (30 + length e.message) + length (packets_of es) ≡ total + length (packets_of (e ∷ es)) =
+      omega (arith, packet_length e.time e.message (packets_of es)) in
+      rw f (ap (λ (m : ℕ). pick (are_writable port es) (Some m) None) l)
 
 -- what was weighed
 picked_octets : (b : Bool) (m n : ℕ) → pick b (Some m) None ≡ Some n → (b ≡ true) × (m ≡ n)
@@ -125,13 +112,13 @@ pub trace_port : (s : List ℕ) → 0 < length s → is_trace s ≡ true → (27
 unfolding entries_of_all
 trace_port s h trace =
     let b = take 512 s in
-    let m = blocks_more s 0 h b refl in
+    let m = blocks_first s h in
     let l : is_laid b ≡ true = (subst AllLaid m (all_laid fresh_reader (blocks_in s) trace)).0 in
     let k = laid b l in (
       omega (arith, k.whole, length-take 512 s),
-      sym (get_or-take 512 s 24 0 (omega arith)) ∙ first_of b (entries_of_all (blocks_in (drop (0 + length b) s))) l ∙ ap (λ (bs : List (List ℕ)). port_of (entries_of_all bs)) (sym m),
+      sym (get_or-take 512 s 24 0 (omega arith)) ∙ first_of b (entries_of_all (blocks_in (drop 512 s))) l ∙ ap (λ (bs : List (List ℕ)). port_of (entries_of_all bs)) (sym m),
     )
 
 pub no_port : (s : List ℕ) → length s ≡ 0 → 0 ≡ port_of (records_of s)
 unfolding entries_of_all
-no_port s h = ap (λ (bs : List (List ℕ)). port_of (entries_of_all bs)) (sym (blocks_end s 0 (omega arith)))
+no_port s h = ap (λ (bs : List (List ℕ)). port_of (entries_of_all bs)) (sym (blocks_end s h))

@@ -14,7 +14,8 @@ ghost use Rattle.playback.specs.Playback.{is_trace};
 ghost use Rattle.pcap.specs.Written.{packet_in, head_in, our_form, our_fields};
 ghost use Rattle.exporting.specs.Exporting.{packet_for, heads_of, packets_of, capture_of, port_of, weight_of, records_of, export_of, out_after_export, export_block_of, reader_behind, packets_behind};
 
-use judging::{Flaw, Reader};
+use judging::Reader;
+use judging::records::Records;
 use pcap::{FRAME, PTP};
 use refusal::Refusal;
 
@@ -23,9 +24,6 @@ const BEFORE: usize = pcap::PACKET + FRAME;
 
 // The seconds that a capture's time has no place for.
 const SECONDS: u64 = 4_294_967_296;
-
-// The octets that a packet has more than the record of its message.
-const MORE: usize = BEFORE - block::HEAD;
 
 // What a writer keeps from block to block: a reader's two words, and the port of the records so far. Zeroed, nothing was read.
 pub const WORDS: usize = 3;
@@ -72,7 +70,7 @@ fn put_packet(out: &mut [u8], at: usize, t: u64, message: &[u8])
 fn is_writable(t: u64, its: u8, port: u64) -> bool
     ensures { result ≡ (eqb its port && ltb (t / second_nanos) 4294967296) }
 {
-    (its as u64 == port) & (t < SECONDS * refusal::SECOND_NANOS as u64)
+    (u64::from(its) == port) & (t < SECONDS * refusal::SECOND_NANOS as u64)
 }
 
 // The octets of the packets of a block whose layout is right, where all its records can be written.
@@ -80,20 +78,12 @@ fn weigh(s: &[u8], port: u64) -> Option<usize>
     requires { is_laid s.now ≡ true }
     ensures { result ≡ weight_of port (entries_of s.now) }
 {
-    let n = block::count(s) as usize;
-    let mut total: usize = 0;
-    let mut at: usize = block::RECORDS;
-    let mut i: usize = 0;
-    while i < n {
-        let t = judging::time_at(s, at);
-        let its = judging::port_at(s, at);
-        if !is_writable(t, its, port) {
+    let mut total = 0;
+    for r in Records::of(s) {
+        if !is_writable(r.time, r.port, port) {
             return None;
         }
-        let end = judging::end_at(s, at);
-        total += end - at + MORE;
-        at = end;
-        i += 1;
+        total += BEFORE + r.message.len();
     }
     Some(total)
 }
@@ -104,17 +94,10 @@ fn put_records(out: &mut [u8], from: usize, s: &[u8]) -> usize
     ensures end { result ≡ from + length (packets_of (entries_of s.now)) }
     ensures octets { out.new ≡ over out.old from (packets_of (entries_of s.now)) }
 {
-    let n = block::count(s) as usize;
     let mut to = from;
-    let mut at: usize = block::RECORDS;
-    let mut i: usize = 0;
-    while i < n {
-        let t = judging::time_at(s, at);
-        let end = judging::end_at(s, at);
-        put_packet(out, to, t, &s[at + block::HEAD..end]);
-        to += end - at + MORE;
-        at = end;
-        i += 1;
+    for r in Records::of(s) {
+        put_packet(out, to, r.time, r.message);
+        to += BEFORE + r.message.len();
     }
     to
 }
@@ -124,10 +107,10 @@ fn first_port(trace: &[u8]) -> u64
     requires { is_trace trace.now ≡ true }
     ensures { result ≡ port_of (records_of trace.now) }
 {
-    if trace.len() == 0 {
+    if trace.is_empty() {
         return 0;
     }
-    judging::port_at(trace, block::RECORDS) as u64
+    u64::from(judging::port_at(trace, block::RECORDS))
 }
 
 // The octets of the packets of a trace, where all its records can be written.
@@ -136,16 +119,9 @@ fn weigh_all(trace: &[u8]) -> Option<usize>
     ensures { result ≡ weight_of (port_of (records_of trace.now)) (records_of trace.now) }
 {
     let port = first_port(trace);
-    let mut total: usize = 0;
-    let mut at: usize = 0;
-    while at < trace.len() {
-        let s = playback::part(trace, at);
-        let w = weigh(s, port);
-        let Some(n) = w else {
-            return None;
-        };
-        total += n;
-        at += s.len();
+    let mut total = 0;
+    for s in trace.chunks(block::OCTETS) {
+        total += weigh(s, port)?;
     }
     Some(total)
 }
@@ -156,12 +132,9 @@ fn put_all(out: &mut [u8], trace: &[u8])
     ensures { out.new ≡ over out.old 0 (capture_of (records_of trace.now)) }
 {
     put_head(out);
-    let mut to: usize = pcap::HEAD;
-    let mut at: usize = 0;
-    while at < trace.len() {
-        let s = playback::part(trace, at);
+    let mut to = pcap::HEAD;
+    for s in trace.chunks(block::OCTETS) {
         to = put_records(out, to, s);
-        at += s.len();
     }
 }
 
@@ -170,14 +143,8 @@ pub fn export(out: &mut [u8], trace: &[u8]) -> Result<usize, Refusal>
     ensures answer { result ≡ export_of (length out.old) trace.now }
     ensures octets { out.new ≡ out_after_export out.old trace.now }
 {
-    let x = playback::judged(trace);
-    let Ok(_) = x else {
-        return Err(Refusal::Block);
-    };
-    let w = weigh_all(trace);
-    let Some(n) = w else {
-        return Err(Refusal::Export);
-    };
+    playback::judged(trace)?;
+    let n = weigh_all(trace).ok_or(Refusal::Export)?;
     if out.len() < pcap::HEAD + n {
         return Err(Refusal::Room);
     }
@@ -191,30 +158,25 @@ fn port_behind(before: u64, s: &[u8]) -> u64
     ensures { result ≡ pick (eqb before 0) (port_of (entries_of s.now)) before }
 {
     if before == 0 {
-        return judging::port_at(s, block::RECORDS) as u64;
+        return u64::from(judging::port_at(s, block::RECORDS));
     }
     before
 }
 
 // Writes the packets of a block behind those that were read, or refuses it: how many octets they have.
-pub fn export_block(words: &mut [u64; WORDS], s: &[u8], out: &mut [u8; MOST]) -> Result<usize, Refusal>
+pub fn export_block(
+    words: &mut [u64; WORDS],
+    s: &[u8],
+    out: &mut [u8; MOST],
+) -> Result<usize, Refusal>
     ensures answer { result ≡ export_block_of words.old s.now }
     ensures words { words.new ≡ reader_behind words.old s.now }
     ensures octets { out.new ≡ packets_behind words.old out.old s.now }
 {
-    let read = Reader {
-        next: words[0],
-        last: words[1],
-    };
-    let v = judging::judge(s, read);
-    let Ok(after) = v else {
-        return Err(Refusal::Block);
-    };
-    let port = port_behind(words[2], s);
-    let w = weigh(s, port);
-    let Some(n) = w else {
-        return Err(Refusal::Export);
-    };
+    let [next, last, before] = *words;
+    let after = judging::judge(s, Reader { next, last })?;
+    let port = port_behind(before, s);
+    let n = weigh(s, port).ok_or(Refusal::Export)?;
     put_records(&mut out[..], 0, s);
     *words = [after.next, after.last, port];
     Ok(n)

@@ -3,28 +3,51 @@
 // layout, its number, its times. Each is a function of its own; `judge` says which fails first. `walking` goes from record to record. Nothing
 // changes: the octets are lent to be read.
 ghost use Rattle.std.specs.Prelude.{◌≡◌, true, ◌+◌, ◌≤◌, length, drop};
+ghost use Rattle.refusal.specs.Limits.{is_port};
+ghost use Rattle.refusal.specs.declared.Refusal.TheVariants.{Block};
 ghost use Rattle.block.specs.Layout.{block_octets, records_at, number_of, first_time_of, time_at, port_at, end_at, entries_of};
 ghost use Rattle.block.specs.Check.{is_checked};
 ghost use Rattle.judging.specs.Tests.{all_zero, laid_from, is_laid, is_next, times_of, verdict_of};
 
 use block::{HEAD, OCTETS, RECORDS};
+use records::Records;
+use refusal::Refusal;
 
+pub mod records;
 pub mod walking;
 
-// What a reader keeps from block to block: the lowest number that the next may have, and the last record's time. Both are 0 before the first.
+// A message that arrived, with its time and its port, as it is lent of a block.
 #[derive(Clone, Copy)]
+pub struct Arrival<'a> {
+    pub time: u64,
+    pub port: u8,
+    pub message: &'a [u8],
+    ghost of_port: { is_port port ≡ true },
+}
+
+// What a reader keeps from block to block: the lowest number that the next may have, and the last record's time. Both are 0 before the first.
+#[derive(Clone, Copy, Debug, PartialEq, Eq)]
 pub struct Reader {
     pub next: u64,
     pub last: u64,
 }
 
-// The test that a block fails first; or it is sound, and what its reader keeps then.
-#[derive(Clone, Copy)]
+// The test that a block fails first.
+#[derive(Clone, Copy, Debug, PartialEq, Eq)]
 pub enum Flaw {
     Check,
     Layout,
     Number,
     Time,
+}
+
+// Replay and export refuse a block with 20, whichever test it fails.
+impl From<Flaw> for Refusal {
+    ghost from_gives = { λ _ r. r ≡ Block };
+
+    fn from(_flaw: Flaw) -> Refusal {
+        Refusal::Block
+    }
 }
 
 // The number of a block.
@@ -66,6 +89,7 @@ pub fn end_at(s: &[u8], at: usize) -> usize
 }
 
 // The check: a word that is not 0 and makes the sum of all a multiple of 65,535.
+#[tactic(auto, unfolding(block::specs::Check::is_checked))]
 pub fn is_checked(s: &[u8]) -> bool
     requires { length s.now ≡ block_octets }
     ensures { result ≡ is_checked s.now }
@@ -75,75 +99,38 @@ pub fn is_checked(s: &[u8]) -> bool
     (check != 0) & (left == 0)
 }
 
-// Whether every octet from one on is zero, looked at one by one.
-fn is_each_zero(s: &[u8], from: usize) -> bool
-    requires { from ≤ length s.now }
-    ensures { result ≡ all_zero (drop from s.now) }
+// Whether every octet is zero, looked at eight at a time while there are eight.
+fn is_zero(s: &[u8]) -> bool
+    ensures { result ≡ all_zero s.now }
 {
-    let mut i = from;
-    while i < s.len() {
-        if s[i] != 0 {
-            return false;
-        }
-        i += 1;
-    }
-    true
-}
-
-// The same, looked at eight at a time while there are eight.
-fn is_zero(s: &[u8], from: usize) -> bool
-    requires { from ≤ length s.now }
-    ensures { result ≡ all_zero (drop from s.now) }
-{
-    let mut i = from;
-    while 8 <= s.len() - i {
-        if octets::held::u64_at(s, i) != 0 {
-            return false;
-        }
-        i += 8;
-    }
-    is_each_zero(s, i)
+    let (eights, rest) = s.as_chunks::<8>();
+    eights.iter().all(|e| u64::from_ne_bytes(*e) == 0) && rest.iter().all(|x| *x == 0)
 }
 
 // Whether so many whole records follow the head, of ports that there are, and zeros follow them.
-fn are_laid(s: &[u8], n: usize) -> bool
+fn are_laid(s: &[u8], n: u16) -> bool
     requires { length s.now ≡ block_octets }
     ensures { result ≡ laid_from n s.now records_at }
 {
-    let mut at: usize = RECORDS;
-    let mut i: usize = 0;
-    while i < n {
-        if OCTETS - HEAD < at {
+    let mut at = RECORDS;
+    for _ in 0..n {
+        let Some(place) = walking::next_at(s, at) else {
             return false;
-        }
-        let end = end_at(s, at);
-        if OCTETS < end {
-            return false;
-        }
-        if !refusal::is_port(port_at(s, at)) {
-            return false;
-        }
-        at = end;
-        i += 1;
+        };
+        at = place.end;
     }
-    is_zero(s, at)
+    is_zero(&s[at..])
 }
 
 // The layout: 512 octets, at least one record, the first one's time in the head, whole records and zeros.
+#[tactic(auto, unfolding(crate::specs::Tests::is_laid))]
 pub fn is_laid(s: &[u8]) -> bool
     ensures { result ≡ is_laid s.now }
 {
-    if s.len() != OCTETS {
-        return false;
-    }
-    let n = block::count(s);
-    if n == 0 {
-        return false;
-    }
-    if first_time(s) != time_at(s, RECORDS) {
-        return false;
-    }
-    are_laid(s, n as usize)
+    s.len() == OCTETS
+        && block::count(s) != 0
+        && first_time(s) == time_at(s, RECORDS)
+        && are_laid(s, block::count(s))
 }
 
 // The number: not below the one that is next.
@@ -155,27 +142,23 @@ pub fn is_next(s: &[u8], next: u64) -> bool
 }
 
 // The times: of a block whose layout is right, none below the one before it.
+#[tactic(auto, unfolding(crate::specs::Tests::is_in_order, crate::specs::Tests::last_of))]
 pub fn timed(s: &[u8], last: u64) -> Option<u64>
     requires { is_laid s.now ≡ true }
     ensures { result ≡ times_of last (entries_of s.now) }
 {
-    let n = block::count(s) as usize;
     let mut t = last;
-    let mut at: usize = RECORDS;
-    let mut i: usize = 0;
-    while i < n {
-        let next = time_at(s, at);
-        if next < t {
+    for r in Records::of(s) {
+        if r.time < t {
             return None;
         }
-        t = next;
-        at = end_at(s, at);
-        i += 1;
+        t = r.time;
     }
     Some(t)
 }
 
-// Which of the four a block fails first, behind the blocks that its reader has read.
+// What a reader keeps behind a sound block and those that it has read; or which of the four tests the block fails first.
+#[tactic(auto, unfolding(crate::specs::Tests::verdict_of, crate::specs::Tests::is_laid, refusal::specs::Choice::refuse))]
 pub fn judge(s: &[u8], reader: Reader) -> Result<Reader, Flaw>
     ensures { result ≡ verdict_of reader s.now }
 {
@@ -191,11 +174,9 @@ pub fn judge(s: &[u8], reader: Reader) -> Result<Reader, Flaw>
     if !is_next(s, reader.next) {
         return Err(Flaw::Number);
     }
-    match timed(s, reader.last) {
-        None => Err(Flaw::Time),
-        Some(t) => Ok(Reader {
-            next: number(s) as u64 + 1,
-            last: t,
-        }),
-    }
+    let last = timed(s, reader.last).ok_or(Flaw::Time)?;
+    Ok(Reader {
+        next: number(s) as u64 + 1,
+        last,
+    })
 }

@@ -16,7 +16,8 @@ pub struct Place {
 }
 
 // The record that begins at an octet, where one does: whole, and of a port that there is.
-fn next_at(s: &[u8], at: usize) -> Option<Place>
+#[tactic(auto, unfolding(crate::specs::Walking::record_at))]
+pub(crate) fn next_at(s: &[u8], at: usize) -> Option<Place>
     requires { length s.now ≡ block_octets }
     ensures { result ≡ record_at s.now at }
 {
@@ -44,8 +45,5 @@ fn next_at(s: &[u8], at: usize) -> Option<Place>
 pub fn record_from(s: &[u8; OCTETS], from: usize) -> Option<Place>
     ensures { result ≡ next_record s.now from }
 {
-    if from < RECORDS {
-        return next_at(&s[..], RECORDS);
-    }
-    next_at(&s[..], from)
+    next_at(&s[..], from.max(RECORDS))
 }

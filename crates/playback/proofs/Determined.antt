@@ -1,6 +1,6 @@
 -- The contract of each public function fixes its answer and every word it is lent: any two results that it allows are equal.
 use mathlib.Core.Path.{◌∙◌, refl, sym}
-use Rattle.laws.proofs.Fixes.{Fixes, FixesPart}
+use Rattle.laws.proofs.Fixes.{Fixes}
 use Rattle.playback.specs.contracts as contracts
 use Rattle.playback.proofs as its
 
@@ -9,10 +9,6 @@ replay_block_determined κs a x y v w p q = (p.0 ∙ sym q.0, λ i. ((p.1.0 ∙ 
 
 pub replay_determined : Fixes contracts.replay.ended its.replay.Reads.Post
 replay_determined κs a x y v w p q = (p.0 ∙ sym q.0, λ i. ((p.1 ∙ sym q.1) i, w.1))
-
--- of a part that is lent, its octets
-pub part_determined : FixesPart contracts.part.ended its.part.Reads.Post (λ κs x. x.now)
-part_determined κs a x y v w p q = (p ∙ sym q, refl)
 
 pub judged_determined : Fixes contracts.judged.ended its.judged.Reads.Post
 judged_determined κs a x y v w p q = (p ∙ sym q, refl)

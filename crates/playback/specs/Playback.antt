@@ -9,7 +9,6 @@ use Rattle.block.specs.Layout.{block_octets, Entry, entries_of}
 use Rattle.judging.specs.Tests.{verdict_of, reader_after}
 use Rattle.judging.specs.declared.Reader.{Reader}
 use Rattle.judging.specs.declared.Flaw.{Flaw}
-use Rattle.judging.specs.declared.Flaw.TheVariants as verdict
 use Rattle.ports.specs.declared.intake.Settings.{Settings}
 use Rattle.ports.specs.History.{Call, taking, run}
 use Rattle.ports.specs.Words.{all_words}
@@ -24,10 +23,7 @@ calls_of by es = map (call_of by) es
 
 -- ---- A BLOCK
 abbrev pub is_sound : Result Reader Flaw → Bool
-is_sound (Err verdict.Check) = false
-is_sound (Err verdict.Layout) = false
-is_sound (Err verdict.Number) = false
-is_sound (Err verdict.Time) = false
+is_sound (Err flaw) = false
 is_sound (Ok r) = true
 
 -- the reader's two words

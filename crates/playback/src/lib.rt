@@ -12,7 +12,9 @@ ghost use Rattle.ports.specs.History.{run};
 ghost use Rattle.ports.specs.Words.{all_words};
 ghost use Rattle.playback.specs.Playback.{calls_of, reader_of, block_check, words_after_block, reader_after_block, blocks_in, entries_of_all, is_trace, cleared, replay_of, words_after_replay};
 
-use judging::{Flaw, Reader};
+use block::OCTETS;
+use judging::Reader;
+use judging::records::Records;
 use ports::WORDS;
 use ports::intake::Settings;
 use refusal::Refusal;
@@ -25,16 +27,8 @@ fn take_all(words: &mut [u64; WORDS], s: &[u8], set: Settings)
     requires { is_laid s.now ≡ true }
     ensures { words.new ≡ run words.old (calls_of set (entries_of s.now)) }
 {
-    let n = block::count(s) as usize;
-    let mut at: usize = block::RECORDS;
-    let mut i: usize = 0;
-    while i < n {
-        let t = judging::time_at(s, at);
-        let port = judging::port_at(s, at);
-        let end = judging::end_at(s, at);
-        bursts::answer(words, port as u64, t, &s[at + block::HEAD..end], set);
-        at = end;
-        i += 1;
+    for r in Records::of(s) {
+        bursts::answer(words, u64::from(r.port), r.time, r.message, set);
     }
 }
 
@@ -49,71 +43,33 @@ pub fn replay_block(
     ensures words { words.new ≡ words_after_block set (reader_of reader.old) words.old s.now }
     ensures reader { reader.new ≡ reader_after_block reader.old s.now }
 {
-    let read = Reader {
-        next: reader[0],
-        last: reader[1],
-    };
-    let v = judging::judge(s, read);
-    let Ok(after) = v else {
-        return Err(Refusal::Block);
-    };
+    let [next, last] = *reader;
+    let after = judging::judge(s, Reader { next, last })?;
     take_all(words, s, set);
     *reader = [after.next, after.last];
     Ok(())
 }
 
-// The block at an octet: 512 octets, or those that are left.
-pub fn part(trace: &[u8], at: usize) -> &[u8]
-    requires { at ≤ length trace.now }
-    ensures { result.now ≡ take block_octets (drop at trace.now) }
-{
-    let left = trace.len() - at;
-    if left < block::OCTETS {
-        return &trace[at..at + left];
-    }
-    &trace[at..at + block::OCTETS]
-}
-
-// Looks at all blocks, and takes nothing.
+// The last record's time of a trace, all of whose blocks are looked at, 0 where it is empty; nothing is taken.
 pub fn judged(trace: &[u8]) -> Result<u64, Refusal>
     ensures { result ≡ replay_of trace.now }
 {
     let mut read = Reader { next: 0, last: 0 };
-    let mut at: usize = 0;
-    while at < trace.len() {
-        let s = part(trace, at);
-        let v = judging::judge(s, read);
-        let Ok(after) = v else {
-            return Err(Refusal::Block);
-        };
-        read = after;
-        at += s.len();
+    for b in trace.chunks(OCTETS) {
+        read = judging::judge(b, read)?;
     }
     Ok(read.last)
 }
 
 // Forgets all records and times, port by port; the intervals stay, each the second word of its port.
-fn clear_in(words: &mut [u64])
-    requires { length words.old ≡ all_words }
-    ensures { words.new ≡ cleared words.old }
-{
-    let mut port: usize = 0;
-    while port < words.len() {
-        let next = port + slots::WORDS;
-        words[port] = 0;
-        let mut k = port + 2;
-        while k < next {
-            words[k] = 0;
-            k += 1;
-        }
-        port = next;
-    }
-}
-
 fn clear(words: &mut [u64; WORDS])
     ensures { words.new ≡ cleared words.old }
 {
-    clear_in(&mut words[..]);
+    for port in 0..refusal::PORTS {
+        let own = port * slots::WORDS;
+        words[own] = 0;
+        words[own + 2..own + slots::WORDS].fill(0);
+    }
 }
 
 // Takes the messages of all blocks of a trace that was looked at.
@@ -121,11 +77,8 @@ fn take_trace(words: &mut [u64; WORDS], trace: &[u8], set: Settings)
     requires { is_trace trace.now ≡ true }
     ensures { words.new ≡ run words.old (calls_of set (entries_of_all (blocks_in trace.now))) }
 {
-    let mut at: usize = 0;
-    while at < trace.len() {
-        let s = part(trace, at);
+    for s in trace.chunks(OCTETS) {
         take_all(words, s, set);
-        at += s.len();
     }
 }
 
@@ -134,12 +87,8 @@ pub fn replay(words: &mut [u64; WORDS], trace: &[u8], set: Settings) -> Result<u
     ensures answer { result ≡ replay_of trace.now }
     ensures words { words.new ≡ words_after_replay set words.old trace.now }
 {
-    match judged(trace) {
-        Err(x) => Err(x),
-        Ok(t) => {
-            clear(words);
-            take_trace(words, trace, set);
-            Ok(t)
-        }
-    }
+    let t = judged(trace)?;
+    clear(words);
+    take_trace(words, trace, set);
+    Ok(t)
 }

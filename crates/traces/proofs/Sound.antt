@@ -15,7 +15,6 @@ use Rattle.block.specs.Layout.{Entry, entries_of}
 use Rattle.judging.specs.Tests.{is_whole, is_in_order, last_of, verdict_of, reader_after}
 use Rattle.block.specs.Making.{sizes_of, open_block, block_of, EntryFits, OnPort, All}
 use Rattle.judging.specs.declared.Reader.{Reader}
-use Rattle.judging.specs.declared.Flaw.TheVariants as verdict
 use Rattle.block.proofs.Check.{sealed_checked}
 use Rattle.block.proofs.Made.{block_length, block_number, block_entries}
 use Rattle.judging.proofs.Laid.{block_laid}

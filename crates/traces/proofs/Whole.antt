@@ -1,13 +1,12 @@
 -- WHAT WAS RECORDED BESIDE A LIVE CLOCK, REPLAYED, GIVES THE LIVE STATE: as long as recording refused none of the messages that the clock accepted, the
 -- trace is accepted, and the replay leaves the words of the live clock (02, (iv)).
 use Rattle.std.specs.Prelude.{Result, Ok, Err}
-use Prim.Native.Nat.{ℕ, ◌+◌, ◌≤◌, ◌<◌}
+use Prim.Native.Nat.{ℕ, ◌≤◌, ◌<◌}
 use mathlib.Core.Path.{◌≡◌, ◌∙◌, refl, sym, ap, subst}
 use mathlib.Core.List.{List, [], ◌∷◌, ◌++◌, map, flatten}
 use mathlib.Core.Bool.{true, ◌&&◌}
 use native.Mathlib.Omega.{arith}
 use lib.ListN.{length, length-append}
-use lib.Seq.{take_at, drop_at}
 use Rattle.refusal.specs.Refusal.{code_of}
 use Rattle.refusal.proofs.Numbers.{answered}
 use Rattle.senders.specs.Port.{outcome_of}
@@ -74,10 +73,10 @@ sounds_whole (next l v h) = (l, sounds_whole h)
 -- one behind the other, they are cut where they were joined
 pub blocks_of : (bs : List (List ℕ)) → AllWhole bs → blocks_in (flatten bs) ≡ bs
 unfolding flatten
-blocks_of [] w = blocks_end [] 0 (omega arith)
+blocks_of [] w = blocks_end [] refl
 blocks_of (b ∷ bs) w =
-    blocks_more (b ++ flatten bs) 0 (omega (arith, length-append b (flatten bs), w.0)) b (sym (take_at b (flatten bs) 512 w.0))
-    ∙ ap (λ (s : List ℕ). b ∷ blocks_in s) (drop_at b (flatten bs) (0 + length b) (omega arith))
+    let n = length-append b (flatten bs) in
+    blocks_more (b ++ flatten bs) b (flatten bs) 512 refl (refl, omega (arith, n, w.0), omega (arith, n, w.0))
     ∙ ap (λ (cs : List (List ℕ)). b ∷ cs) (blocks_of bs w.1)
 
 -- all records are those of each block, one after another

@@ -4,7 +4,6 @@ use Rattle.refusal.specs.Choice.{pick}
 use Rattle.block.specs.Layout.{block_octets, records_at, longest, Entry}
 use Rattle.judging.specs.Tests.{verdict_of, reader_after}
 use Rattle.judging.specs.declared.Reader.{Reader}
-use Rattle.judging.specs.declared.Flaw.TheVariants as verdict
 use Rattle.block.specs.Making.{size_of, sizes_of, sealed, open_block, block_of}
 use Rattle.recording.specs.Recording.{next_of, end_of, is_open, closes, record_check, open_after, words_after}
 use Rattle.refusal.specs.declared.Refusal.{Refusal}

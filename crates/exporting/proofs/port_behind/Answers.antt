@@ -13,4 +13,4 @@ port_at-requires c =
 
 pub returns-then-before-eq0 : goal.returns-then-before-eq0
 returns-then-before-eq0 c =
-    rw (eq-eqb _ _ c.if-before-eq0.true) (c.port_at.ensures ∙ first_port c.args.s.now c.requires)
+    rw (eq-eqb _ _ c.if-before-eq0.true) (c.from.ensures ∙ c.port_at.ensures ∙ first_port c.args.s.now c.requires)

@@ -1,63 +1,67 @@
--- `put_all` meets its contract: the loop's invariant says that the blocks that are left are laid out right, and that their packets, put behind those
--- that were put, give the whole capture.
+-- `put_all` meets its contract: a block that is left is the first of those that are left, and there is room for its packets, and then for the others'.
 use Prim.Native.Nat.{ℕ, ◌+◌, ◌≤◌}
-use mathlib.Core.Path.{refl, sym, ap, subst, ◌∙◌}
-use mathlib.Core.List.{List}
+use mathlib.Core.Path.{◌≡◌, refl, sym, ap, subst, ◌∙◌}
+use mathlib.Core.List.{List, ◌∷◌}
 use native.Mathlib.Omega.{arith}
-use lib.ListN.{length, drop}
+use lib.ListN.{length}
+use Rattle.std.specs.Slice.Iter.{chunks_rest, chunks_size}
 use Rattle.block.specs.Layout.{entries_of}
 use Rattle.stores.specs.Stores.{over}
 use Rattle.stores.proofs.Buffer.{put_none}
 use Rattle.playback.specs.Playback.{blocks_in, entries_of_all, fresh_reader}
-use Rattle.playback.proofs.Blocks.{blocks_end, blocks_more, block_inside, AllLaid, all_laid}
+use Rattle.playback.proofs.Blocks.{blocks_end, blocks_more, AllLaid, all_laid}
 use Rattle.pcap.specs.Written.{packets_in}
 use Rattle.exporting.specs.Exporting.{packets_of, records_of}
 use Rattle.exporting.proofs.Packets.{blocks_length, block_put, head_put}
 use Rattle.exporting.proofs.put_all.Goals as goal
 
-pub loop-at-init : goal.loop-at-init
-loop-at-init c =
-    (omega arith, all_laid fresh_reader (blocks_in c.args.trace.now) c.requires.0, omega arith, refl, refl)
+-- there is room for the packets of one block and for those of the blocks behind it
+has_room : (to room : ℕ) (b : List ℕ) (bs ds : List (List ℕ)) → ds ≡ b ∷ bs → to + length (packets_of (entries_of_all ds)) ≤ room
+    → to + length (packets_of (entries_of b)) + length (packets_of (entries_of_all bs)) ≤ room
+unfolding entries_of_all
+has_room to room b bs ds on h =
+    omega (arith, ap (λ (k : List (List ℕ)). length (packets_of (entries_of_all k))) on, blocks_length b bs)
+
+pub loop-s-init : goal.loop-s-init
+loop-s-init c =
+    let e = c.into_iter-s-iterator.ensures.into_iter_gives in
+    let r = ap chunks_rest e ∙ c.chunks-s-items.ensures.rest in (
+      ap chunks_size e ∙ c.chunks-s-items.ensures.size,
+      rw r (all_laid fresh_reader (blocks_in c.args.trace.now) c.requires.0),
+      rw r (omega (arith, c.requires.1)),
+      refl,
+      rw r refl,
+    )
 
 pub put_records-to-requires : goal.put_records-to-requires
-unfolding entries_of_all
 put_records-to-requires c =
-    let on = blocks_more c.args.trace.now c.loop-at.at c.loop-at-test.true c.part-s.result.now c.part-s.ensures in
-    let bs = blocks_in (drop (c.loop-at.at + length c.part-s.result.now) c.args.trace.now) in
-    let room : c.loop-at.to + length (packets_of (entries_of c.part-s.result.now)) + length (packets_of (entries_of_all bs)) ≤ length c.loop-at.out =
-    omega (arith, ap (λ (k : List (List ℕ)). length (packets_of (entries_of_all k))) on, blocks_length c.part-s.result.now bs, c.loop-at.invariant.2) in
-    ((subst AllLaid on c.loop-at.invariant.1).0, omega (arith, room))
+    let l = c.loop-s in
+    let on = blocks_more _ c.in-Some.s.now _ _ l.invariant.0 c.in-Some.ensures.steps.1 in
+    let r = has_room l.to (length l.out) c.in-Some.s.now _ _ on l.invariant.2 in
+    ((subst AllLaid on l.invariant.1).0, omega (arith, r))
 
-pub loop-at-smaller : goal.loop-at-smaller
-loop-at-smaller c =
-    let inside = block_inside c.args.trace.now c.loop-at.at c.loop-at-test.true c.part-s.result.now c.part-s.ensures in
-    omega (arith, inside.0, inside.1)
-
-pub loop-at-preserved : goal.loop-at-preserved
-unfolding entries_of_all
-loop-at-preserved c =
-    let b = c.part-s.result.now in
+pub loop-s-preserved : goal.loop-s-preserved
+loop-s-preserved c =
+    let l = c.loop-s in
+    let b = c.in-Some.s.now in
+    let bs = blocks_in (chunks_rest c.next.new.self) in
     let e = c.put_records-to.ensures in
-    let on = blocks_more c.args.trace.now c.loop-at.at c.loop-at-test.true c.part-s.result.now c.part-s.ensures in
-    let inside = block_inside c.args.trace.now c.loop-at.at c.loop-at-test.true c.part-s.result.now c.part-s.ensures in
-    let bs = blocks_in (drop (c.loop-at.at + length c.part-s.result.now) c.args.trace.now) in
-    let room : c.loop-at.to + length (packets_of (entries_of c.part-s.result.now)) + length (packets_of (entries_of_all bs)) ≤ length c.loop-at.out =
-    omega (arith, ap (λ (k : List (List ℕ)). length (packets_of (entries_of_all k))) on, blocks_length c.part-s.result.now bs, c.loop-at.invariant.2) in (
-      inside.1,
-      (subst AllLaid on c.loop-at.invariant.1).1,
-      omega (arith, room, e.end),
-      omega (arith, c.loop-at.invariant.3),
-      block_put b bs c.loop-at.out c.put_records-to.new.out c.loop-at.to c.put_records-to.result (omega (arith, room)) e.end e.octets
-          ∙ ap (λ (bs : List (List ℕ)). over c.loop-at.out c.loop-at.to (packets_of (entries_of_all bs))) (sym on)
-          ∙ c.loop-at.invariant.4,
+    let on = blocks_more _ b _ _ l.invariant.0 c.in-Some.ensures.steps.1 in
+    let r = has_room l.to (length l.out) b bs _ on l.invariant.2 in (
+      c.in-Some.ensures.steps.0 ∙ l.invariant.0,
+      (subst AllLaid on l.invariant.1).1,
+      omega (arith, r, e.end),
+      omega (arith, l.invariant.3),
+      block_put b bs l.out c.put_records-to.new.out l.to c.put_records-to.result (omega (arith, r)) e.end e.octets
+          ∙ ap (λ (ds : List (List ℕ)). over l.out l.to (packets_of (entries_of_all ds))) (sym on)
+          ∙ l.invariant.4,
     )
 
 pub returns : goal.returns
 unfolding entries_of_all packets_in
 returns c =
-    let a = c.args in
-    let s = a.trace.now in
-    put_none c.loop-at.out c.loop-at.to
-    ∙ ap (λ (bs : List (List ℕ)). over c.loop-at.out c.loop-at.to (packets_of (entries_of_all bs))) (sym (blocks_end s c.loop-at.at (omega arith)))
-    ∙ c.loop-at.invariant.4
-    ∙ head_put a.out.now c.put_head.new.out (records_of s) c.put_head.ensures
+    let l = c.loop-s in
+    put_none l.out l.to
+    ∙ ap (λ (ds : List (List ℕ)). over l.out l.to (packets_of (entries_of_all ds))) (sym (blocks_end _ c.in-None.ensures.steps.1.0))
+    ∙ l.invariant.4
+    ∙ head_put c.args.out.now c.put_head.new.out (records_of c.args.trace.now) c.put_head.ensures

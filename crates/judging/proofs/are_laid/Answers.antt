@@ -1,38 +1,23 @@
--- `are_laid` meets its contract: the loop's invariant says that the records that are left, from the octet that was reached on, are laid out
--- right where all are.
-use Prim.Native.Nat.{◌-◌}
-use mathlib.Core.Path.{◌≡◌, sym, ap, ◌∙◌}
-use native.Mathlib.Omega.{arith}
-use Rattle.refusal.specs.Limits.{is_port}
-use Rattle.judging.specs.Tests.{laid_from}
-use Rattle.judging.proofs.TestLaws.{laid_long, laid_port, laid_more}
+-- `are_laid` meets its contract: where none stands the records are not laid out right, and else those behind it have to be.
+use Rattle.std.proofs.Common.{◌≡◌, ◌≤◌, ◌-◌, length, drop, length-drop, sym, ap, ◌∙◌, arith}
+use Rattle.std.proofs.lemmas.List.{take_all}
+use Rattle.judging.specs.Tests.{all_zero, laid_from}
+use Rattle.judging.proofs.TestLaws.{laid_none, laid_more}
 use Rattle.judging.proofs.are_laid.Goals as goal
 
-pub returns-then-at : goal.returns-then-at
-returns-then-at c =
-    let a = c.args in
-    laid_long a.s.now c.loop-i.at a.n c.loop-i.i c.loop-i-test.true (omega arith) ∙ c.loop-i.invariant.2
+pub returns-in_default : goal.returns-in_default
+returns-in_default c =
+    laid_none c.args.s.now c.loop.at c.args.n c.loop.counter c.loop-test.true (sym c.next_at.ensures ∙ c.in_default.is)
+    ∙ c.loop.invariant.1
 
-pub returns-then-end-gt-OCTETS : goal.returns-then-end-gt-OCTETS
-returns-then-end-gt-OCTETS c =
-    let a = c.args in
-    laid_long a.s.now c.loop-i.at a.n c.loop-i.i c.loop-i-test.true (omega arith) ∙ c.loop-i.invariant.2
-
-pub returns-then-not-is_port : goal.returns-then-not-is_port
-returns-then-not-is_port c =
-    let a = c.args in
-    let f = sym (c.is_port.ensures ∙ ap is_port c.port_at.ensures) ∙ c.if-not-is_port.true in
-    laid_port a.s.now c.loop-i.at a.n c.loop-i.i c.loop-i-test.true (omega arith) f ∙ c.loop-i.invariant.2
-
-pub loop-i-preserved : goal.loop-i-preserved
-loop-i-preserved c =
-    let a = c.args in
-    let f = sym (c.is_port.ensures ∙ ap is_port c.port_at.ensures) ∙ c.if-not-is_port.false in
-    let m = laid_more a.s.now c.loop-i.at a.n c.loop-i.i c.loop-i-test.true (omega arith) f in
-    (omega arith, omega arith, rw c.end_at-end.ensures (m ∙ c.loop-i.invariant.2))
+pub loop-preserved : goal.loop-preserved
+loop-preserved c =
+    let k = laid_more c.args.s.now c.loop.at c.args.n c.loop.counter c.loop-test.true c.in-Some.place (sym c.next_at.ensures ∙ c.in-Some.is) in
+    (k.0, k.1 ∙ c.loop.invariant.1)
 
 pub returns : goal.returns
 unfolding laid_from
 returns c =
-    let e : c.args.n - c.loop-i.i ≡ 0 = omega arith in
-    c.is_zero.ensures ∙ rw e at c.loop-i.invariant.2
+    let e : c.args.n - c.loop.counter ≡ 0 = omega arith in
+    let l : length (drop c.loop.at c.args.s.now) ≤ length c.args.s.now - c.loop.at = omega (arith, length-drop c.loop.at c.args.s.now) in
+    c.is_zero.ensures ∙ ap all_zero (take_all _ _ l) ∙ rw e at c.loop.invariant.1

@@ -9,18 +9,16 @@ use Rattle.playback.proofs.replay.Goals as goal
 
 pub take_trace-requires : goal.take_trace-requires
 take_trace-requires c =
-    let a = c.args in
-    until_accepted a.trace.now c.in-Ok.t (sym c.judged.ensures ∙ c.in-Ok.is)
+    until_accepted c.args.trace.now c.in_ok-t.t (sym c.judged.ensures ∙ c.in_ok-t.was)
 
-pub returns-in-Err-clause-words : goal.returns-in-Err-clause-words
-returns-in-Err-clause-words c =
+pub returns-in_err-t-clause-words : goal.returns-in_err-t-clause-words
+returns-in_err-t-clause-words c =
     let a = c.args in
-    let e = sym c.judged.ensures ∙ c.in-Err.is in
-    sym (refused_trace a.set a.words.now a.trace.now c.in-Err.x e)
+    sym (refused_trace a.set a.words.now a.trace.now _ (sym c.judged.ensures ∙ c.in_err-t.was))
 
-pub returns-in-Ok-clause-words : goal.returns-in-Ok-clause-words
-returns-in-Ok-clause-words c =
+pub returns-clause-words : goal.returns-clause-words
+returns-clause-words c =
     let a = c.args in
-    let e = sym c.judged.ensures ∙ c.in-Ok.is in c.take_trace.ensures
+    c.take_trace.ensures
     ∙ ap (λ (ws : List ℕ). run ws (calls_of a.set (entries_of_all (blocks_in a.trace.now)))) c.clear.ensures
-    ∙ sym (accepted_words a.set a.words.now a.trace.now (until_accepted a.trace.now c.in-Ok.t e))
+    ∙ sym (accepted_words a.set a.words.now a.trace.now (until_accepted a.trace.now c.in_ok-t.t (sym c.judged.ensures ∙ c.in_ok-t.was)))

@@ -1,16 +1,11 @@
--- `take_all` meets its contract: the loop's invariant says that the records that are left are laid out right, so that each is there to be read, and
--- that they give, after those that were taken, all that the block gives.
-use Prim.Native.Nat.{◌≤◌, ◌-◌}
+-- The loop's invariant says that the records that are left give, after those that were taken, all that the block gives.
 use mathlib.Core.Path.{◌≡◌}
-use mathlib.Core.Bool.{true}
-use Rattle.block.specs.Layout.{entries_from, entries_of}
-use Rattle.judging.specs.Tests.{laid_from}
+use Rattle.block.specs.Layout.{entries_of}
 use Rattle.ports.specs.History.{run}
 use Rattle.playback.specs.Playback.{calls_of}
 use Rattle.playback.proofs.take_all.Given as goal
 
-abbrev pub invariant-loop-i : goal.invariant-loop-i
-invariant-loop-i l = (l.i ≤ l.n) × (laid_from (l.n - l.i) l.s l.at ≡ true) × (run l.words (calls_of l.set (entries_from (l.n - l.i) l.s l.at)) ≡ run l.initial.words (calls_of l.set (entries_of l.s)))
-
-abbrev pub decreases-loop-i : goal.decreases-loop-i
-decreases-loop-i l = l.n - l.i
+abbrev pub invariant-loop-r : goal.invariant-loop-r
+invariant-loop-r l =
+    (goal.iterator-loop-r).can_next l.r-iterator × (goal.iterator-loop-r).is_finite l.r-iterator
+    × (run l.words (calls_of l.set l.r-iterator) ≡ run l.initial.words (calls_of l.set (entries_of l.s)))

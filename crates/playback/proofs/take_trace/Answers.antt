@@ -1,41 +1,38 @@
--- `take_trace` meets its contract: the loop's invariant says that the blocks that are left are laid out right, and give, after those that were taken,
--- all that the trace gives.
-use Prim.Native.Nat.{ℕ, ◌+◌}
-use mathlib.Core.Path.{refl, sym, ap, subst, ◌∙◌}
+-- `take_trace` meets its contract: a block that is left is the first of those that are left, and gives its records before the others.
+use Prim.Native.Nat.{ℕ}
 use mathlib.Core.List.{List}
-use native.Mathlib.Omega.{arith}
-use lib.ListN.{length, drop}
+use mathlib.Core.Path.{sym, ap, subst, ◌∙◌}
+use Rattle.std.specs.Slice.Iter.{chunks_rest, chunks_size}
 use Rattle.ports.specs.History.{run}
 use Rattle.playback.specs.Playback.{calls_of, blocks_in, entries_of_all, fresh_reader}
-use Rattle.playback.proofs.Blocks.{blocks_end, blocks_more, block_inside, AllLaid, all_laid, block_taken}
+use Rattle.playback.proofs.Blocks.{blocks_end, blocks_more, AllLaid, all_laid, block_taken}
 use Rattle.playback.proofs.take_trace.Goals as goal
 
-pub loop-at-init : goal.loop-at-init
-loop-at-init c =
-    (omega arith, all_laid fresh_reader (blocks_in c.args.trace.now) c.requires, refl)
+pub loop-s-init : goal.loop-s-init
+loop-s-init c =
+    let e = c.into_iter-s-iterator.ensures.into_iter_gives in
+    let r = ap chunks_rest e ∙ c.chunks-s-items.ensures.rest in
+    (ap chunks_size e ∙ c.chunks-s-items.ensures.size, rw r (all_laid fresh_reader (blocks_in c.args.trace.now) c.requires), rw r)
 
 pub take_all-requires : goal.take_all-requires
 take_all-requires c =
-    let s = c.args.trace.now in
-    (subst AllLaid (blocks_more s c.loop-at.at c.loop-at-test.true c.part-s.result.now c.part-s.ensures) c.loop-at.invariant.1).0
+    let l = c.loop-s in
+    (subst AllLaid (blocks_more _ c.in-Some.s.now _ _ l.invariant.0 c.in-Some.ensures.steps.1) l.invariant.1).0
 
-pub loop-at-preserved : goal.loop-at-preserved
-loop-at-preserved c =
-    let a = c.args in
-    let s = a.trace.now in
-    let b = c.part-s.result.now in
-    let k = block_inside s c.loop-at.at c.loop-at-test.true b c.part-s.ensures in
-    let m = blocks_more s c.loop-at.at c.loop-at-test.true b c.part-s.ensures in (
-      k.1,
-      (subst AllLaid m c.loop-at.invariant.1).1,
-      block_taken a.set c.loop-at.words c.take_all.new.words b (blocks_in (drop (c.loop-at.at + length b) s)) c.take_all.ensures
-          ∙ ap (λ (bs : List (List ℕ)). run c.loop-at.words (calls_of a.set (entries_of_all bs))) (sym m)
-          ∙ c.loop-at.invariant.2,
+pub loop-s-preserved : goal.loop-s-preserved
+loop-s-preserved c =
+    let l = c.loop-s in
+    let m = blocks_more _ c.in-Some.s.now _ _ l.invariant.0 c.in-Some.ensures.steps.1 in (
+      c.in-Some.ensures.steps.0 ∙ l.invariant.0,
+      (subst AllLaid m l.invariant.1).1,
+      block_taken c.args.set l.words c.take_all.new.words c.in-Some.s.now (blocks_in (chunks_rest c.next.new.self)) c.take_all.ensures
+          ∙ ap (λ (bs : List (List ℕ)). run l.words (calls_of c.args.set (entries_of_all bs))) (sym m)
+          ∙ l.invariant.2,
     )
 
 pub returns : goal.returns
 unfolding entries_of_all
 returns c =
-    let a = c.args in
-    ap (λ (bs : List (List ℕ)). run c.loop-at.words (calls_of a.set (entries_of_all bs))) (sym (blocks_end a.trace.now c.loop-at.at (omega arith)))
-    ∙ c.loop-at.invariant.2
+    let l = c.loop-s in
+    ap (λ (bs : List (List ℕ)). run l.words (calls_of c.args.set (entries_of_all bs))) (sym (blocks_end _ c.in-None.ensures.steps.1.0))
+    ∙ l.invariant.2
