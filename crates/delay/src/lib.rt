@@ -123,13 +123,14 @@ fn is_within(x: i64, limit: i64) -> bool
 }
 
 // Whether all three corrections lie strictly between -2^47 and 2^47.
+// Here and below `&` stays: with `&&`, which branches at each test, `dz_measure` takes nine instructions more and misses its 400.
 #[tactic(auto, unfolding(crate::specs::Range::corrections_good))]
 fn corrections_good(c: Corrections) -> bool
     ensures { result ≡ corrections_good c }
 {
     is_within(c.sync.0, CORRECTION)
-        && is_within(c.follow.0, CORRECTION)
-        && is_within(c.resp.0, CORRECTION)
+        & is_within(c.follow.0, CORRECTION)
+        & is_within(c.resp.0, CORRECTION)
 }
 
 // Whether all four latencies are below 2^50.
@@ -154,9 +155,9 @@ fn stamps_good(s: Stamps) -> bool
     ensures { result ≡ stamps_good s }
 {
     stamp_good(s.t1.seconds, s.t1.nanos)
-        && stamp_good(s.t2.seconds, s.t2.nanos)
-        && stamp_good(s.t3.seconds, s.t3.nanos)
-        && stamp_good(s.t4.seconds, s.t4.nanos)
+        & stamp_good(s.t2.seconds, s.t2.nanos)
+        & stamp_good(s.t3.seconds, s.t3.nanos)
+        & stamp_good(s.t4.seconds, s.t4.nanos)
 }
 
 // Whether all that was handed in is within its limits; the two differences are still to be looked at. The asymmetry lies strictly
@@ -166,9 +167,9 @@ fn inputs_good(x: Exchange) -> bool
     ensures { result ≡ inputs_good x }
 {
     stamps_good(x.stamps)
-        && corrections_good(x.corrections)
-        && is_within(x.asymmetry.0, ASYMMETRY)
-        && latencies_good(x.latencies)
+        & corrections_good(x.corrections)
+        & is_within(x.asymmetry.0, ASYMMETRY)
+        & latencies_good(x.latencies)
 }
 
 // A correction, raised by 2^47.

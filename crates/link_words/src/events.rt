@@ -16,17 +16,14 @@ fn put_link(b: Brief, out: &mut [u64; 18])
     ensures { out.new ≡ link_words b }
 {
     let w = b.word;
-    let count = u64::from(b.sends != 0) + u64::from(b.both);
-    out.fill(0);
-    out[..7].copy_from_slice(&[
-        w % 8,
-        w / 8 % 2,
-        w / 16 % 2,
-        w / 32,
-        u64::from(b.report),
-        count,
-        b.sends,
-    ]);
+    *out = [0; 18];
+    out[0] = w % 8;
+    out[1] = w / 8 % 2;
+    out[2] = w / 16 % 2;
+    out[3] = w / 32;
+    out[4] = b.report.into();
+    out[5] = u64::from(b.sends != 0) + u64::from(b.both);
+    out[6] = b.sends;
 }
 
 // What CALIBRATE carries.
