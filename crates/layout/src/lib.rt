@@ -4,14 +4,14 @@
 // Each number is stored where it belongs, with no copy made first. Nothing is refused here: what is asked of the caller is that
 // a buffer has the room and that transportSpecific fits, which `writer` has checked.
 ghost use Rattle.std.specs.Prelude.{◌≡◌, [], ◌+◌, ◌≤◌, ◌<◌, length};
-ghost use Rattle.std.specs.Int.{w16};
-ghost use Rattle.std.proofs.Common.{of_z};
 ghost use Rattle.stores.specs.Stores.{over};
 ghost use Rattle.layout.specs.Layout.{kind_of, control_of, size_of, identity_octets, stamp_octets, lead_octets, close_octets, announce_octets, header_octets, first_octets, more_octets, body_octets};
 ghost use Rattle.layout.specs.Put.{start_octets, offset_octets, grandmaster_octets};
 
 use identity::PortIdentity;
-use message::fields::{ANNOUNCE, Announce, Body, DELAY_REQ, DELAY_RESP, FOLLOW_UP, Header, SIGNALING, SYNC, Timestamp};
+use message::fields::{
+    ANNOUNCE, Announce, Body, DELAY_REQ, DELAY_RESP, FOLLOW_UP, Header, SIGNALING, SYNC, Timestamp,
+};
 
 // versionPTP.
 const VERSION: u8 = 2;
@@ -42,8 +42,7 @@ fn control_of(b: Body) -> u8
         Body::DelayReq(_) => 1,
         Body::FollowUp(_) => 2,
         Body::DelayResp(_) => 3,
-        Body::Announce(_) => 5,
-        Body::Signaling(_) => 5,
+        Body::Announce(_) | Body::Signaling(_) => 5,
     }
 }
 
@@ -83,7 +82,7 @@ pub fn put_lead(out: &mut [u8], h: Header, kind: u8, size: u16)
     requires { (h.transport < 16) × (kind < 16) × (20 ≤ length out.old) }
     ensures { out.new ≡ over out.old 0 (lead_octets h kind size []) }
 {
-    let correction = octets::bits64(h.correction);
+    let correction = h.correction.cast_unsigned();
     put_start(out, h, kind, size);
     stores::eight(out, 8, correction);
     stores::four(out, 16, 0);
@@ -94,21 +93,10 @@ pub fn put_close(out: &mut [u8], h: Header, control: u8)
     requires { 34 ≤ length out.old }
     ensures { out.new ≡ over out.old 30 (close_octets h control []) }
 {
-    let interval = octets::bits8(h.interval);
+    let interval = h.interval.cast_unsigned();
     stores::two(out, 30, h.sequence as u64);
     stores::one(out, 32, control);
     stores::one(out, 33, interval);
-}
-
-// The two's complement of x.
-fn bits16(x: i16) -> u16
-    ensures { result ≡ of_z w16 x }
-{
-    if x < 0 {
-        0xffff - ((-1 - x) as u16)
-    } else {
-        x as u16
-    }
 }
 
 // Octets 44 to 49 of an Announce.
@@ -116,7 +104,7 @@ fn put_offset(out: &mut [u8], a: Announce)
     requires { 64 ≤ length out.old }
     ensures { out.new ≡ over out.old 44 (offset_octets a) }
 {
-    let utc = bits16(a.utc);
+    let utc = a.utc.cast_unsigned();
     stores::two(out, 44, utc as u64);
     stores::one(out, 46, RESERVED);
     stores::one(out, 47, a.priority1);
@@ -161,9 +149,7 @@ fn put_first(out: &mut [u8], b: Body)
     ensures { out.new ≡ over out.old 34 (first_octets b []) }
 {
     match b {
-        Body::Sync(t) => put_stamp(out, t),
-        Body::DelayReq(t) => put_stamp(out, t),
-        Body::FollowUp(t) => put_stamp(out, t),
+        Body::Sync(t) | Body::DelayReq(t) | Body::FollowUp(t) => put_stamp(out, t),
         Body::DelayResp(r) => put_stamp(out, r.receive),
         Body::Announce(a) => put_stamp(out, a.origin),
         Body::Signaling(p) => put_identity(out, 34, p),
@@ -176,12 +162,9 @@ fn put_more(out: &mut [u8], b: Body)
     ensures { out.new ≡ over out.old 44 (more_octets b []) }
 {
     match b {
-        Body::Sync(_) => {}
-        Body::DelayReq(_) => {}
-        Body::FollowUp(_) => {}
         Body::DelayResp(r) => put_identity(out, 44, r.requester),
         Body::Announce(a) => put_announce(out, a),
-        Body::Signaling(_) => {}
+        Body::Sync(_) | Body::DelayReq(_) | Body::FollowUp(_) | Body::Signaling(_) => {}
     }
 }
 

@@ -2,7 +2,7 @@
 use Prim.Native.Nat.{ℕ, zero, suc, ◌+◌, ◌*◌, ◌/◌, ◌%◌, ◌^◌, ◌<◌, ◌≤◌}
 use mathlib.Core.Path.{◌≡◌, refl, ap}
 use mathlib.Core.List.{List, [], ◌∷◌}
-use native.Mathlib.Nat.{pow-suc, add-suc, add-zero, zero-add, pow-zero, add_assoc, add_comm, pow-le-pow_right, lt_of_lt_of_le, div-lt_iff_lt-mul, div-add-mod'}
+use native.Mathlib.Nat.{pow-suc, add-suc, add-zero, zero-add, pow-zero, add_assoc, pow-le-pow_right, lt_of_lt_of_le, div-lt_iff_lt-mul, div-add-mod'}
 use native.Mathlib.Omega.{arith}
 use lib.ListN.{length, get_or, take, drop}
 use lib.Seq.{get_or-drop, get_or-take}
@@ -72,14 +72,6 @@ be_split m zero s at = rw (add-zero, pow-zero) (omega arith)
 be_split m (suc n) s at =
     let e : be (m + n) s at ≡ be m s at * 256 ^ n + be n s (at + m) = be_split m n s at in
     rw (add-suc, e, pow-suc, add_assoc) (omega arith)
-
--- a number from its two halves, the last octets first
-pub halves : (m n : ℕ) (s : List ℕ) (at : ℕ) {x y : ℕ} → y ≡ be n s (at + m) → x ≡ be m s at → y + x * 256 ^ n ≡ be (m + n) s at
-halves m n s at {x} {y} p q = rw (p, q, be_split m n s at) (add_comm (be n s (at + m)) (be m s at * 256 ^ n))
-
-pub be_one : (s : List ℕ) (at : ℕ) → get_or s at 0 ≡ be 1 s at
-unfolding be
-be_one s at = rw add-zero (omega arith)
 
 -- A list of n elements or more, its first n written out
 abbrev pub opened : ℕ → List ℕ → List ℕ → List ℕ

@@ -1,39 +1,20 @@
--- Laws of numbers with the lowest octet first, and of a file on its way: what is left of it at an octet is the packet that begins there and what is left at its
+-- Laws of a file on its way: what is left of it at an octet is the packet that begins there and what is left at its
 -- end.
-use Prim.Native.Nat.{ℕ, zero, suc, ◌+◌, ◌*◌, ◌^◌, ◌-◌, ◌≤◌, ◌<◌}
+use Prim.Native.Nat.{ℕ, zero, suc, ◌+◌, ◌-◌, ◌≤◌, ◌<◌}
 use mathlib.Core.Path.{◌≡◌, refl, sym, ap, ◌∙◌}
 use mathlib.Core.List.{List, [], ◌∷◌}
 use mathlib.Core.Bool.{Bool, true, false, ◌&&◌, true≢false}
-use native.Mathlib.Nat.{pow-suc, pow-zero, add-zero, zero-add, suc-add}
 use native.Mathlib.Omega.{arith}
 use lib.Dec.{eqb, leb, ltb}
-use lib.ListN.{length, get_or, take, drop, length-drop}
+use lib.ListN.{length, take, drop, length-drop}
 use lib.Seq.{take_all, drop-drop}
 use borrow.Author.Tests.{eq-eqb, ne_eqb, leb-true, ltb-true, lt-leb}
 use Rattle.laws.proofs.Bools.{both}
 use Rattle.refusal.specs.Choice.{pick}
 use Rattle.refusal.specs.Limits.{second_nanos}
 use Rattle.pcap.specs.declared.Form.{Form}
-use Rattle.pcap.specs.Form.{low, form_of}
+use Rattle.pcap.specs.Form.{form_of}
 use Rattle.pcap.specs.File.{file_head, is_head, is_ethernet, is_capture_in, is_capture, fraction_of, stored_of, original_of, size_of, is_packet_head, is_packet, rests_from, rests_of, are_packets}
-
--- ---- THE LOWEST OCTET FIRST
-pub low_one : (s : List ℕ) (at : ℕ) → get_or s at 0 ≡ low 1 s at
-unfolding low
-low_one s at = omega arith
-
--- two parts, of m and of n octets
-pub low_split : (m n : ℕ) (s : List ℕ) (at : ℕ) → low (m + n) s at ≡ low m s at + low n s (at + m) * 256 ^ m
-unfolding low
-low_split zero n s at = rw (zero-add, add-zero, pow-zero) (omega arith)
-low_split (suc m) n s at =
-    let e : low (m + n) s (suc at) ≡ low m s (suc at) + low n s (suc at + m) * 256 ^ m = low_split m n s (suc at) in
-    let k : suc at + m ≡ at + suc m = omega arith in
-    rw (suc-add, e, k, pow-suc) (omega arith)
-
--- a number from its two parts
-pub low_parts : (m n : ℕ) (s : List ℕ) (at : ℕ) {x y : ℕ} → x ≡ low m s at → y ≡ low n s (at + m) → x + y * 256 ^ m ≡ low (m + n) s at
-low_parts m n s at p q = rw (p, q, low_split m n s at)
 
 -- ---- PACKETS ONE BEHIND THE OTHER
 -- where there are enough steps for the octets, more of them change nothing

@@ -19,6 +19,7 @@ pub const FRAME: usize = 14;
 pub const PTP: u16 = 0x88F7;
 
 // A form: whether the lowest octet of a number comes first, and the nanoseconds of one count of a fraction, 0 where the file's first octets are no magic.
+// The unit is no Option: `specs/Form.antt: unit_under` says 0, and so do the witnesses and the words of C.
 #[derive(Clone, Copy)]
 pub struct Form {
     pub little: bool,
@@ -26,25 +27,21 @@ pub struct Form {
 }
 
 // Two octets, the lowest first.
+#[tactic(auto, unfolding(crate::specs::Form::low))]
 fn low2(s: &[u8], at: usize) -> u16
     requires { at + 2 ≤ length s.now }
     ensures { result ≡ low 2 s.now at }
 {
-    wide(s[at]) + wide(s[at + 1]) * 256
-}
-
-fn wide(x: u8) -> u16
-    ensures { result ≡ x }
-{
-    x as u16
+    u16::from_le_bytes([s[at], s[at + 1]])
 }
 
 // Four octets, the lowest first.
+#[tactic(auto, unfolding(crate::specs::Form::low))]
 fn low4(s: &[u8], at: usize) -> u32
     requires { at + 4 ≤ length s.now }
     ensures { result ≡ low 4 s.now at }
 {
-    low2(s, at) as u32 + low2(s, at + 2) as u32 * 65536
+    u32::from_le_bytes([s[at], s[at + 1], s[at + 2], s[at + 3]])
 }
 
 // A number of two octets, as the form has it, and one of four.
@@ -53,9 +50,10 @@ fn two(form: Form, s: &[u8], at: usize) -> u16
     ensures { result ≡ number_at form 2 s.now at }
 {
     if form.little {
-        return low2(s, at);
+        low2(s, at)
+    } else {
+        octets::held::u16_at(s, at)
     }
-    octets::held::u16_at(s, at)
 }
 
 fn four(form: Form, s: &[u8], at: usize) -> u32
@@ -63,22 +61,21 @@ fn four(form: Form, s: &[u8], at: usize) -> u32
     ensures { result ≡ number_at form 4 s.now at }
 {
     if form.little {
-        return low4(s, at);
+        low4(s, at)
+    } else {
+        octets::held::u32_at(s, at)
     }
-    octets::held::u32_at(s, at)
 }
 
 // The nanoseconds of one count under a magic, 0 under any other number.
 fn unit_under(magic: u32) -> u16
     ensures { result ≡ unit_under magic }
 {
-    if magic == 0xa1b2c3d4 {
-        return 1000;
+    match magic {
+        0xa1b2c3d4 => 1000,
+        0xa1b23c4d => 1,
+        _ => 0,
     }
-    if magic == 0xa1b23c4d {
-        return 1;
-    }
-    0
 }
 
 // The form that the first four octets tell.
@@ -171,7 +168,8 @@ pub fn is_packet(form: Form, s: &[u8]) -> bool
 fn are_packets(form: Form, s: &[u8]) -> bool
     ensures { result ≡ are_packets form (rests_of form s.now) }
 {
-    let mut at: usize = 0;
+    let mut at = 0;
+    // The loop stays: its step is read from the packet, so there is no range to go over.
     while at < s.len() {
         let rest = &s[at..];
         if !is_packet(form, rest) {

@@ -1,5 +1,6 @@
 -- `put_more` meets its contract: case by case, one part or none.
 use native.Mathlib.Omega.{arith}
+use mathlib.Core.Logic.{inl, inr}
 use Rattle.stores.proofs.Buffer.{put_none}
 use Rattle.message.specs.Fields.{fixed_size}
 use Rattle.layout.proofs.put_more.Goals as goal
@@ -16,16 +17,5 @@ put_announce-requires c =
 
 pub returns-in-Sync : goal.returns-in-Sync
 returns-in-Sync c =
-    rw c.in-Sync.is (put_none c.args.out.now 44)
-
-pub returns-in-DelayReq : goal.returns-in-DelayReq
-returns-in-DelayReq c =
-    rw c.in-DelayReq.is (put_none c.args.out.now 44)
-
-pub returns-in-FollowUp : goal.returns-in-FollowUp
-returns-in-FollowUp c =
-    rw c.in-FollowUp.is (put_none c.args.out.now 44)
-
-pub returns-in-Signaling : goal.returns-in-Signaling
-returns-in-Signaling c =
-    rw c.in-Signaling.is (put_none c.args.out.now 44)
+    let n = put_none c.args.out.now 44 in
+    elim c.in-Sync.is [ inl b ↦ rw b.1 n | inr r ↦ elim r [ inl b ↦ rw b.1 n | inr q ↦ elim q [ inl b ↦ rw b.1 n | inr b ↦ rw b.1 n ] ] ]
