@@ -5,60 +5,25 @@ ghost use Rattle.octets.specs.Be.{octets_of};
 pub fn two(v: u16) -> [u8; 2]
     ensures { result ≡ octets_of 2 v [] }
 {
-    [(v / 256 % 256) as u8, (v % 256) as u8]
+    u16::to_be_bytes(v)
 }
 
 pub fn four(v: u32) -> [u8; 4]
     ensures { result ≡ octets_of 4 v [] }
 {
-    let a = v / 256;
-    let b = a / 256;
-    let c = b / 256;
-    [
-        (c % 256) as u8,
-        (b % 256) as u8,
-        (a % 256) as u8,
-        (v % 256) as u8,
-    ]
+    u32::to_be_bytes(v)
 }
 
 // The low 48 bits of v.
 pub fn six(v: u64) -> [u8; 6]
     ensures { result ≡ octets_of 6 v [] }
 {
-    let a = v / 256;
-    let b = a / 256;
-    let c = b / 256;
-    let d = c / 256;
-    let e = d / 256;
-    [
-        (e % 256) as u8,
-        (d % 256) as u8,
-        (c % 256) as u8,
-        (b % 256) as u8,
-        (a % 256) as u8,
-        (v % 256) as u8,
-    ]
+    let [_, _, a, b, c, d, e, f] = eight(v);
+    [a, b, c, d, e, f]
 }
 
 pub fn eight(v: u64) -> [u8; 8]
     ensures { result ≡ octets_of 8 v [] }
 {
-    let a = v / 256;
-    let b = a / 256;
-    let c = b / 256;
-    let d = c / 256;
-    let e = d / 256;
-    let f = e / 256;
-    let g = f / 256;
-    [
-        (g % 256) as u8,
-        (f % 256) as u8,
-        (e % 256) as u8,
-        (d % 256) as u8,
-        (c % 256) as u8,
-        (b % 256) as u8,
-        (a % 256) as u8,
-        (v % 256) as u8,
-    ]
+    u64::to_be_bytes(v)
 }

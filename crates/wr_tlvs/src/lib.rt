@@ -10,8 +10,8 @@ ghost use Rattle.writer.specs.Writing.{write_of, buffer_of};
 ghost use Rattle.wr_tlvs.specs.Built.{wr_octets, zeros, suffix_tlv, link_tlv, link_octets, signaling};
 
 use identity::PortIdentity;
-use refusal::Refusal;
 use message::fields::{Body, Header, Message};
+use refusal::Refusal;
 use tlv::form::{ANN_SUFIX, CALIBRATE, CALIBRATED, LOCK, LOCKED, MODE_ON, SLAVE_PRESENT};
 use tlv::wr::LinkMessage;
 
@@ -30,41 +30,14 @@ fn built(number: u16, n: u16, content: [u8; 16], magic: u16) -> WrTlv
     ensures { result ≡ record { octets = wr_octets magic number n content; size = 12 + n } }
 {
     let f = tlv::form::wr_form(magic);
-    let k = digits::two(f.kind);
-    let l = digits::two(8 + n);
-    let s = digits::six(f.six);
-    let i = digits::two(number);
+    let mut octets = [0; 28];
+    octets[..2].copy_from_slice(&digits::two(f.kind));
+    octets[2..4].copy_from_slice(&digits::two(8 + n));
+    octets[4..10].copy_from_slice(&digits::six(f.six));
+    octets[10..12].copy_from_slice(&digits::two(number));
+    octets[12..].copy_from_slice(&content);
     WrTlv {
-        octets: [
-            k[0],
-            k[1],
-            l[0],
-            l[1],
-            s[0],
-            s[1],
-            s[2],
-            s[3],
-            s[4],
-            s[5],
-            i[0],
-            i[1],
-            content[0],
-            content[1],
-            content[2],
-            content[3],
-            content[4],
-            content[5],
-            content[6],
-            content[7],
-            content[8],
-            content[9],
-            content[10],
-            content[11],
-            content[12],
-            content[13],
-            content[14],
-            content[15],
-        ],
+        octets,
         size: 12 + n as usize,
     }
 }
@@ -80,30 +53,26 @@ fn bare(number: u16, magic: u16) -> WrTlv
 fn calibrate_data(pattern: u8, retry: u8, period: u32) -> [u8; 16]
     ensures { result ≡ pattern ∷ retry ∷ octets_of 4 period (zeros 10) }
 {
-    let p = digits::four(period);
-    [
-        pattern, retry, p[0], p[1], p[2], p[3], 0, 0, 0, 0, 0, 0, 0, 0, 0, 0,
-    ]
+    let [a, b, c, d] = digits::four(period);
+    [pattern, retry, a, b, c, d, 0, 0, 0, 0, 0, 0, 0, 0, 0, 0]
 }
 
 // The data of a CALIBRATED.
 fn calibrated_data(tx: u64, rx: u64) -> [u8; 16]
     ensures { result ≡ octets_of 8 tx (octets_of 8 rx (zeros 0)) }
 {
-    let t = digits::eight(tx);
-    let r = digits::eight(rx);
-    [
-        t[0], t[1], t[2], t[3], t[4], t[5], t[6], t[7], r[0], r[1], r[2], r[3], r[4], r[5], r[6],
-        r[7],
-    ]
+    let mut both = [0; 16];
+    both[..8].copy_from_slice(&digits::eight(tx));
+    both[8..].copy_from_slice(&digits::eight(rx));
+    both
 }
 
 // The suffix of an Announce. Of wrFlags the four bits that mean something are written; the reserved ones are zero.
 pub fn suffix(flags: u16, magic: u16) -> WrTlv
     ensures { result ≡ suffix_tlv magic flags }
 {
-    let d = digits::two(flags % 16);
-    let content = [d[0], d[1], 0, 0, 0, 0, 0, 0, 0, 0, 0, 0, 0, 0, 0, 0];
+    let [high, low] = digits::two(flags % 16);
+    let content = [high, low, 0, 0, 0, 0, 0, 0, 0, 0, 0, 0, 0, 0, 0, 0];
     built(ANN_SUFIX, 2, content, magic)
 }
 
@@ -143,7 +112,7 @@ pub fn write_link(
     writer::writing::write(
         out,
         Message {
-            header: header,
+            header,
             body: Body::Signaling(target),
         },
         tail,
