@@ -54,6 +54,11 @@ known_of w t a i r =
 abbrev pub new_of : ℕ → Notice → ℕ → Result (ℕ × Record) Refusal
 new_of t a j = refuse (not (nat_lt j 16)) (Err Full) (Ok (j, fresh_of t a))
 
+-- the same by the slot, where there is one
+abbrev pub new_in : ℕ → Notice → Option ℕ → Result (ℕ × Record) Refusal
+new_in t a None = Err Full
+new_in t a (Some j) = Ok (j, fresh_of t a)
+
 abbrev pub sender_plan : ℕ → ℕ → Notice → List Record → ℕ → Result (ℕ × Record) Refusal
 sender_plan w t a l i = pick (nat_lt i 16) (known_of w t a i (slice_index_or l i empty_slot)) (new_of t a (first (is_free w t) l))
 

@@ -9,7 +9,7 @@
 // records are kept, and what is refused before an Announce comes here, is left to those above.
 ghost use Rattle.std.specs.Prelude.{◌≡◌, ◌-◌};
 ghost use Rattle.senders.specs.Record.{window_of, is_of, is_live, is_free, is_distant, is_qualified, is_newer, fresh_of, next_of, candidate_of};
-ghost use Rattle.senders.specs.Port.{known_of, new_of};
+ghost use Rattle.senders.specs.Port.{known_of, new_in};
 
 use identity::PortIdentity;
 use rank::{Candidate, Grandmaster};
@@ -53,19 +53,14 @@ pub fn window(e: u64) -> u64
 fn age(t: u64, receipt: u64) -> u64
     ensures { result ≡ t - receipt }
 {
-    if receipt <= t { t - receipt } else { 0 }
+    t.saturating_sub(receipt)
 }
 
 // Whether the record is this sender's.
 pub fn is_of(r: Record, x: PortIdentity) -> bool
     ensures { result ≡ is_of x r }
 {
-    let n = r.notice;
-    let s = n.sender;
-    if s.clock != x.clock {
-        return false;
-    }
-    (s.port == x.port) & (r.receipts != 0)
+    r.notice.sender == x && r.receipts != 0
 }
 
 // Whether the sender was heard within the window.
@@ -96,17 +91,15 @@ pub fn is_distant(a: Notice) -> bool
 pub fn is_qualified(r: Record, w: u64, t: u64) -> bool
     ensures { result ≡ is_qualified w t r }
 {
-    let n = r.notice;
     // written so that the compiled code looks at the receipts first: an empty slot is done with after one test
-    !is_distant(n) & (age(t, r.older) <= w) & (2 <= r.receipts)
+    !is_distant(r.notice) & (age(t, r.older) <= w) & (2 <= r.receipts)
 }
 
 // Whether a sequenceId comes after another, around the end of its 16 bits.
 pub fn is_newer(new: u16, old: u16) -> bool
     ensures { result ≡ is_newer new old }
 {
-    let d = std::num::wrapping_sub_u16(new, old);
-    (1 <= d) & (d <= 32767)
+    (1..=32767).contains(&new.wrapping_sub(old))
 }
 
 // A record with one receipt.
@@ -134,27 +127,25 @@ pub fn next(r: Record, a: Notice, t: u64) -> Record
 }
 
 // What an Announce does whose sender has the record in slot `i`.
+#[tactic(auto, unfolding(refusal::specs::Choice::refuse))]
 pub fn known(r: Record, i: usize, w: u64, t: u64, a: Notice) -> Result<(usize, Record), Refusal>
     ensures { result ≡ known_of w t a i r }
 {
     if !is_live(r, w, t) {
         return Ok((i, fresh(a, t)));
     }
-    let n = r.notice;
-    if is_newer(a.sequence, n.sequence) {
-        return Ok((i, next(r, a, t)));
+    if !is_newer(a.sequence, r.notice.sequence) {
+        return Err(Refusal::Stale);
     }
-    Err(Refusal::Stale)
+    Ok((i, next(r, a, t)))
 }
 
-// What an Announce of a new sender does, where `j` is the lowest free slot.
-pub fn unknown(j: usize, t: u64, a: Notice) -> Result<(usize, Record), Refusal>
-    ensures { result ≡ new_of t a j }
+// What an Announce of a new sender does, where `j` is the lowest free slot, if there is one.
+pub fn unknown(j: Option<usize>, t: u64, a: Notice) -> Result<(usize, Record), Refusal>
+    ensures { result ≡ new_in t a j }
 {
-    if j < SLOTS {
-        return Ok((j, fresh(a, t)));
-    }
-    Err(Refusal::Full)
+    let j = j.ok_or(Refusal::Full)?;
+    Ok((j, fresh(a, t)))
 }
 
 // The candidate that a record is on a port.
@@ -162,12 +153,10 @@ pub fn candidate(r: Record, port: u8) -> Candidate
     ensures { result ≡ candidate_of port r }
 {
     let n = r.notice;
-    let grandmaster = n.grandmaster;
-    let sender = n.sender;
     Candidate {
-        grandmaster,
+        grandmaster: n.grandmaster,
         steps: n.steps,
-        sender,
+        sender: n.sender,
         port,
         wrflags: n.wrflags,
     }
