@@ -3,7 +3,7 @@
 // with its port and time, taken one after another. A message is a row of five words: port, time, where it begins in the octets lent, how
 // many octets it has, and the word that its answer is written to. A burst is refused with 17 where it holds more than 288; then
 // nothing is taken and no answer written.
-ghost use Rattle.std.specs.Prelude.{◌≡◌, min};
+ghost use Rattle.std.specs.Prelude.{◌≡◌};
 ghost use Rattle.slots.specs.Words.{block};
 ghost use Rattle.words.specs.Words.{port_of};
 ghost use Rattle.ports.specs.Intake.{plan_at, state_after};
@@ -33,19 +33,12 @@ pub fn answer(words: &mut [u64; WORDS], port: u64, t: u64, s: &[u8], set: Settin
     refusal::code(ports::intake::take(words, port as u8, t, s, set))
 }
 
-fn least(a: usize, b: usize) -> usize
-    ensures { result ≡ min a b }
-{
-    if a < b { a } else { b }
-}
-
 // Those of the octets from `begin` on, `count` of them, that were lent.
 fn part(octets: &[u8], begin: usize, count: usize) -> &[u8]
     ensures { result.now ≡ block octets.now begin count }
 {
-    let n = octets.len();
-    let b = least(begin, n);
-    let c = least(count, n - b);
+    let b = begin.min(octets.len());
+    let c = count.min(octets.len() - b);
     &octets[b..b + c]
 }
 
@@ -54,13 +47,9 @@ fn take_each(words: &mut [u64; WORDS], octets: &[u8], burst: &mut [[u64; ROW]], 
     ensures words { words.new ≡ run words.old (calls_of set octets.now burst.old) }
     ensures rows { burst.new ≡ answered set octets.now words.old burst.old }
 {
-    let n = burst.len();
-    let mut i: usize = 0;
-    while i < n {
-        let m = burst[i];
+    for m in burst.iter_mut() {
         let s = part(octets, m[2] as usize, m[3] as usize);
-        burst[i][4] = answer(words, m[0], m[1], s, set);
-        i += 1;
+        m[4] = answer(words, m[0], m[1], s, set);
     }
 }
 

@@ -5,7 +5,7 @@ ghost use Rattle.rank.specs.Order.{earlier_of};
 ghost use Rattle.rank.specs.Ranked.{is_port};
 ghost use Rattle.ports.specs.Words.{port_at, all_words};
 ghost use Rattle.ports.specs.Places.{place_on, port_by, candidate_at};
-ghost use Rattle.slots.specs.Words.{port_words};
+ghost use Rattle.slots.specs.Words.{port_words, block};
 
 use crate::WORDS;
 use rank::Candidate;
@@ -38,14 +38,20 @@ pub fn port_of(at: usize) -> usize
     at * 669 / 65536 + 1
 }
 
+// The six words of the record at a place.
+fn record(words: &[u64; WORDS], at: usize) -> &[u64; slots::RECORD]
+    requires { at + 6 ≤ all_words }
+    ensures { result.now ≡ block words.now at 6 }
+{
+    words[at..at + slots::RECORD].as_array().unwrap()
+}
+
 // The candidate at a place.
 pub fn candidate(words: &[u64; WORDS], at: usize) -> Candidate
     requires { at + 6 ≤ all_words }
     ensures { result ≡ candidate_at words.now at }
 {
-    let r = slots::read(&words[at..at + 6]);
-    let port = port_of(at);
-    senders::candidate(r, port as u8)
+    senders::candidate(slots::read(record(words, at)), port_of(at) as u8)
 }
 
 // Whether the candidate at `a` stands before that at `b`, which is one of a port with a lower number.
@@ -53,5 +59,5 @@ pub fn is_before(words: &[u64; WORDS], a: usize, b: usize) -> bool
     requires { (a + 6 ≤ all_words) × (b + 6 ≤ all_words) × (b / port_words < a / port_words) }
     ensures { result ≡ earlier_of (candidate_at words.now a) (candidate_at words.now b) }
 {
-    slots::comes_before(&words[a..a + 6], &words[b..b + 6])
+    slots::comes_before(record(words, a), record(words, b))
 }

@@ -60,7 +60,11 @@ fn age(t: u64, receipt: u64) -> u64
 pub fn is_of(r: Record, x: PortIdentity) -> bool
     ensures { result ≡ is_of x r }
 {
-    r.notice.sender == x && r.receipts != 0
+    // Not by `==` on the whole name, which takes a search of sixteen records past its bar: 198 instructions for 170.
+    if r.notice.sender.clock != x.clock {
+        return false;
+    }
+    (r.notice.sender.port == x.port) & (r.receipts != 0)
 }
 
 // Whether the sender was heard within the window.

@@ -1,5 +1,5 @@
 -- The cases of the definitions, over plain values: at a `return`, the tests that led there pick one.
-use Rattle.std.specs.Prelude.{Option, Some, None, Result, Ok, Err}
+use Rattle.std.specs.Prelude.{Option, Some, None, Result, Ok, Err, position}
 use mathlib.Core.Path.{◌≡◌, refl, sym, ap, ◌∙◌}
 use mathlib.Core.Bool.{Bool, true, false, ◌&&◌}
 use mathlib.Core.List.{List, [], ◌∷◌, map}
@@ -18,10 +18,10 @@ use Rattle.rank.specs.Ranked as ranked
 use Rattle.senders.specs.declared.Notice.{Notice}
 use Rattle.senders.specs.declared.Record.{Record}
 use Rattle.senders.specs.Record.{window_of, is_of, is_free, is_qualified, candidate_of}
-use Rattle.senders.specs.Port.{Port, empty_slot, slot_of, tab, first, kept, known_of, new_of, plan_of, asked_of, candidate_in, candidates_of, best_of, head_of}
-use Rattle.slots.specs.Words.{block, begin_of, record_of, slot_at, slots_of, port_of, seen_in, ahead_in, outdoes_in, best_in}
+use Rattle.senders.specs.Port.{Port, empty_slot, slot_of, tab, first, kept, known_of, new_of, new_in, plan_of, asked_of, candidate_in, candidates_of, best_of, head_of}
+use Rattle.slots.specs.Words.{block, begin_of, of_six, record_of, records_of, slot_at, slots_of, port_of, seen_in, ahead_in, outdoes_in, best_in}
 use Rattle.slots.specs.Places.{place_among, found_in}
-use Rattle.slots.proofs.Laws.{length_tab, get_d_tab, get_d_past}
+use Rattle.slots.proofs.Laws.{length_tab, get_d_tab, get_d_past, lowest_is, none_is}
 use Rattle.slots.proofs.Order.{earlier_words}
 use Rattle.refusal.specs.declared.Refusal.{Refusal}
 
@@ -59,6 +59,15 @@ module _ (p : Port) (t : ℕ) (a : Notice) where
   unfolding plan_of refuse
   plan_new w i j q h ew ei hi ej eq =
       rw (le-ltb _ _ h, ← ew, ← ei, le-ltb _ _ hi) (eq ∙ ap (new_of t a) ej)
+
+-- a new sender's plan by the search for a free slot
+pub new_is : (ws : List ℕ) (w t : ℕ) (a : Notice) (o : Option ℕ) → o ≡ position (λ s. is_free w t (of_six s)) (records_of ws)
+    → new_in t a o ≡ new_of t a (first (is_free w t) (slots_of ws))
+unfolding refuse
+new_is ws w t a None e = let f = none_is (is_free w t) ws (sym e) in ap (new_of t a) f
+new_is ws w t a (Some j) e =
+    let k = lowest_is (is_free w t) ws j (sym e) in
+    rw (lt-ltb j 16 k.0) at (ap (new_of t a) k.1)
 
 -- ---- asking
 module _ (p : Port) (t : ℕ) (x : Result (Option Candidate) Refusal) where

@@ -1,20 +1,25 @@
 -- Laws of the layout: parts that are lent, tables of slots, and a block of words put anew.
-use Rattle.std.specs.Prelude.{Result, Ok, Err}
+use Rattle.std.specs.Prelude.{Some, None, Result, Ok, Err, cond, not, position}
+use Rattle.std.specs.List.{position_or_len}
+use Rattle.std.proofs.lemmas.List.{take_all}
+use Rattle.std.proofs.lemmas.List.Quantifiers.{position-Some}
 use mathlib.Core.Path.{◌≡◌, refl, ap, ◌∙◌, sym}
 use mathlib.Core.Bool.{Bool, true, false}
-use mathlib.Core.List.{List, [], ◌∷◌, ◌++◌, append_assoc}
+use mathlib.Core.List.{List, [], ◌∷◌, ◌++◌, map, append_assoc}
 use Prim.Native.Nat.{ℕ, zero, suc, ◌+◌, ◌-◌, ◌*◌, ◌≤◌, ◌<◌, zero-le, suc-le-suc}
 use native.Mathlib.Nat.{le_of_suc-le-suc, not-suc-le-zero, add-sub_cancel_left}
 use native.Mathlib.Omega.{arith}
 use lib.ListN.{length, get_or, set, take, drop, length-append, length-take, length-drop, get_or-append}
 use lib.Seq.{drop-drop, length-take-le, drop_at, take_at, get_or-take, get_or-drop, ext_get_or}
+use borrow.Author.Tests.{ltb-false}
+use Rattle.refusal.specs.Choice.{pick}
 use borrow.Rule.Slice.PartMut.{put_mid, Post-is}
 use Rattle.std.specs.Simd.{first_chunks}
 use Rattle.senders.specs.declared.Record.{Record}
 use Rattle.senders.specs.Port.{tab, first, empty_slot, outcome_of}
 use Rattle.senders.proofs.First.{first_hit, first_none}
 use Rattle.refusal.specs.declared.Refusal.{Refusal}
-use Rattle.slots.specs.Words.{block, splice, put_slot, words_after}
+use Rattle.slots.specs.Words.{block, splice, put_slot, words_after, begin_of, of_six, record_of, records_of, slot_at, slots_of}
 
 -- what the borrow checker says of a part that is lent, `&ws[b..b + n]` and `&mut ws[b..b + n]`, in the layout's terms
 pub lent : (ws : List ℕ) (b n : ℕ) → take (b + n - b) (drop b ws) ≡ block ws b n
@@ -147,3 +152,81 @@ chunk_at {X} n (suc k) zero xs h =
 chunk_at {X} n (suc k) (suc i) xs h =
     let e : n + n * i ≡ n * suc i = omega arith in
     chunk_at n k i (drop n xs) (omega arith) ∙ ap (take n) (drop-drop (n * i) n xs ∙ ap (λ (j : ℕ). drop j xs) e)
+
+pub chunks_tab : {X : Type 0} (n k : ℕ) (xs : List X) → first_chunks n k xs ≡ tab k (λ i. take n (drop (n * i) xs))
+unfolding tab
+chunks_tab n zero xs = refl
+chunks_tab {X} n (suc k) xs =
+    let e : 0 ≡ n * 0 = omega arith in
+    ap (λ (l : List (List X)). take n xs ∷ l)
+    (chunks_tab n k (drop n xs)
+    ∙ tab_ext k (λ i. take n (drop (n * i) (drop n xs))) (λ i. take n (drop (n * suc i) xs))
+    (λ i h. let f : n + n * i ≡ n * suc i = omega arith in ap (take n) (drop-drop (n * i) n xs ∙ ap (λ (j : ℕ). drop j xs) f)))
+    ∙ ap (λ (j : ℕ). take n (drop j xs) ∷ tab k (λ i. take n (drop (n * suc i) xs))) e
+
+-- a port's words behind the first two are its records
+pub records_are : (ws : List ℕ) (k : ℕ) → length ws ≡ 98 → k ≡ 16 → first_chunks 6 k (take 96 (drop 2 ws)) ≡ records_of ws
+unfolding records_of
+records_are ws k l e =
+    ap (λ (j : ℕ). first_chunks 6 j (take 96 (drop 2 ws))) e
+    ∙ ap (first_chunks 6 16) (take_all 96 (drop 2 ws) (omega (arith, length-drop 2 ws)))
+    ∙ chunks_tab 6 16 (drop 2 ws)
+    ∙ tab_ext 16 (λ i. take 6 (drop (6 * i) (drop 2 ws))) (λ i. take 6 (drop (2 + 6 * i) ws)) (λ i h. ap (take 6) (drop-drop (6 * i) 2 ws))
+
+pub record_is : (ws : List ℕ) (i : ℕ) → i < 16 → get_or (records_of ws) i [] ≡ block ws (begin_of i) 6
+unfolding records_of
+record_is ws i h = get_d_tab 16 (λ k. block ws (begin_of k) 6) i [] h
+
+pub length_records : (ws : List ℕ) → length (records_of ws) ≡ 16
+unfolding records_of
+length_records ws = length_tab 16 (λ i. block ws (begin_of i) 6)
+
+map_tab : {X Y : Type 0} (f : X → Y) (n : ℕ) (g : ℕ → X) → map f (tab n g) ≡ tab n (λ i. f (g i))
+unfolding tab
+map_tab f zero g = refl
+map_tab {X} {Y} f (suc n) g = ap (λ (l : List Y). f (g 0) ∷ l) (map_tab f n (λ i. g (suc i)))
+
+map_records : (ws : List ℕ) → map of_six (records_of ws) ≡ slots_of ws
+unfolding records_of record_of
+map_records ws = map_tab of_six 16 (λ i. block ws (begin_of i) 6)
+
+-- the search for a record gives the lowest slot that passes the test
+module _ (test : Record → Bool) (ws : List ℕ) where
+  passes_at : (i : ℕ) (b : Bool) → i < 16 → test (of_six (get_or (records_of ws) i [])) ≡ b → test (slot_at ws i) ≡ b
+  unfolding record_of
+  passes_at i b h e = ap (λ (l : List ℕ). test (of_six l)) (sym (record_is ws i h)) ∙ e
+
+  pub lowest_is : (i : ℕ) → position (λ s. test (of_six s)) (records_of ws) ≡ Some i → (i < 16) × (i ≡ first test (slots_of ws))
+  lowest_is i e =
+      let w = position-Some (λ s. test (of_six s)) (records_of ws) i [] e in
+      let h : i < 16 = omega (arith, w.0, length_records ws) in
+      (h, sym (tab_hit test 16 (slot_at ws) i (λ k g. passes_at k false (omega arith) (w.2 k g)) h (passes_at i true h w.1)))
+
+  reached : (b : Bool) (m n : ℕ) → m ≡ n → cond (not b) (1 + m) 0 ≡ pick b 0 (suc n)
+  reached true m n e = refl
+  reached false m n e = omega arith
+
+  within : (b : Bool) (m n : ℕ) → m ≤ n → cond (not b) (1 + m) 0 ≤ suc n
+  within true m n e = zero-le
+  within false m n e = omega arith
+
+  place_is : (xs : List (List ℕ)) → position_or_len (λ s. test (of_six s)) xs ≡ first test (map of_six xs)
+  unfolding first
+  place_is [] = refl
+  place_is (x ∷ xs) = reached (test (of_six x)) _ _ (place_is xs)
+
+  place_within : (xs : List (List ℕ)) → position_or_len (λ s. test (of_six s)) xs ≤ length xs
+  place_within [] = zero-le
+  place_within (x ∷ xs) = within (test (of_six x)) _ _ (place_within xs)
+
+  nowhere : (b : Bool) (n : ℕ) → cond b (Some n) None ≡ None → b ≡ false
+  nowhere true n e = absurd (let z : ◌≡◌ {A = ℕ} 0 1 = cc in omega arith)
+  nowhere false n e = refl
+
+  pub none_is : position (λ s. test (of_six s)) (records_of ws) ≡ None → 16 ≡ first test (slots_of ws)
+  none_is e =
+      let n = position_or_len (λ s. test (of_six s)) (records_of ws) in
+      let past : length (records_of ws) ≤ n = ltb-false n (length (records_of ws)) (nowhere _ n e) in
+      let l = length_records ws in
+      let full : 16 ≡ n = omega (arith, place_within (records_of ws)) in
+      full ∙ place_is (records_of ws) ∙ ap (first test) (map_records ws)

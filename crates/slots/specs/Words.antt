@@ -7,10 +7,8 @@ use Rattle.rank.specs.Order.{earlier_of}
 use Rattle.rank.specs.Best.{best}
 use Rattle.rank.specs.Ranked as ranked
 use Rattle.senders.specs.declared.Record.{Record}
-use Rattle.senders.specs.Record.{is_of, is_free, is_qualified, candidate_of}
+use Rattle.senders.specs.Record.{is_qualified, candidate_of}
 use Rattle.senders.specs.Port.{Port, slot_of, tab, kept, head_of}
-use Rattle.slots.specs.declared.Sought.{Sought}
-use Rattle.slots.specs.declared.Sought.TheVariants.{Of, Free}
 use Rattle.rank.specs.declared.Candidate.{Candidate}
 use Rattle.refusal.specs.declared.Refusal.{Refusal}
 
@@ -82,6 +80,10 @@ begin_of i = 2 + 6 * i
 abbrev pub slot_at : List ℕ → ℕ → Record
 slot_at ws i = record_of (block ws (begin_of i) 6)
 
+-- the sixteen records, six words each
+unfoldable pub records_of : List ℕ → List (List ℕ)
+records_of ws = tab 16 (λ i. block ws (begin_of i) 6)
+
 abbrev pub slots_of : List ℕ → List Record
 slots_of ws = tab 16 (slot_at ws)
 
@@ -96,11 +98,6 @@ put_slot ws i r = splice ws (begin_of i) 6 (words_of r)
 abbrev pub words_after : List ℕ → ℕ → Result (ℕ × Record) Refusal → List ℕ
 words_after ws t (Err x) = ws
 words_after ws t (Ok (i, r)) = set (put_slot ws i r) 0 t
-
--- what a slot is looked for by
-abbrev pub sought_in : Sought → Record → Bool
-sought_in (Of sender) r = is_of sender r
-sought_in (Free w t) r = is_free w t r
 
 -- a slot that ever held a record has receipts
 abbrev pub seen_record : Record → Option Record

@@ -6,9 +6,11 @@
 // `plan` says what an Announce is to do, or refuses it with 11 (its time lies before the last accepted one), 12 or 13, and changes no word;
 // `put` carries a plan out and writes one record and the time. Asking refuses 11. Reading messages, and which port's words these
 // are, is left to those above.
-ghost use Rattle.std.specs.Prelude.{◌≡◌, ◌+◌, ◌-◌, ◌≤◌, ◌<◌, length, set};
-ghost use Rattle.senders.specs.Port.{first, plan_of, asked_of, candidate_in, best_of};
-ghost use Rattle.slots.specs.Words.{of_six, six_of, id_word, grade_word, slot_at, slots_of, port_of, put_slot, words_after, sought_in, seen_in, before_in, later_in, outdoes_in, port_words};
+ghost use Rattle.std.specs.Prelude.{◌≡◌, ◌+◌, ◌-◌, ◌≤◌, ◌<◌, length, set, position, MatchResult};
+ghost use Rattle.refusal.specs.declared.Refusal.TheVariants.{Backward};
+ghost use Rattle.senders.specs.Port.{plan_of, asked_of, candidate_in, best_of};
+ghost use Rattle.senders.specs.Record.{is_of, is_free};
+ghost use Rattle.slots.specs.Words.{block, of_six, six_of, id_word, grade_word, slot_at, port_of, put_slot, words_after, seen_in, before_in, later_in, outdoes_in, port_words, records_of};
 ghost use Rattle.slots.specs.Places.{place_among, place_in, above_in};
 
 use identity::PortIdentity;
@@ -19,16 +21,11 @@ use senders::{Notice, Record, SLOTS};
 // The words of a port: two, and sixteen records of six.
 pub const WORDS: usize = 98;
 
-// What a slot is looked for by: the record of a sender, or a place that is empty or expired.
-#[derive(Clone, Copy)]
-pub enum Sought {
-    Of(PortIdentity),
-    Free(u64, u64),
-}
+// The words of a record.
+pub const RECORD: usize = 6;
 
 // The record in a slot's six words.
-pub fn read(s: &[u64]) -> Record
-    requires { length s.now ≡ 6 }
+pub fn read(s: &[u64; RECORD]) -> Record
     ensures { result ≡ of_six s.now }
 {
     let id = s[1];
@@ -84,13 +81,20 @@ fn write(s: &mut [u64], r: Record, identity: u64, grade: u64)
     s[5] = grade;
 }
 
+// The sixteen records of a port.
+fn records(ws: &[u64; WORDS]) -> &[[u64; RECORD]]
+    ensures value { result.now ≡ records_of ws.now }
+    ensures len { length result.now ≡ 16 }
+{
+    ws[2..].as_chunks().0
+}
+
 // The record in slot `i`.
 fn load(ws: &[u64; WORDS], i: usize) -> Record
     requires { i < 16 }
     ensures { result ≡ slot_at ws.now i }
 {
-    let b = 2 + 6 * i;
-    read(&ws[b..b + 6])
+    read(&records(ws)[i])
 }
 
 // Slot `i` holds the record afterwards, and no other word changes.
@@ -103,59 +107,44 @@ fn store(ws: &mut [u64], i: usize, r: Record, identity: u64, grade: u64)
     write(&mut ws[b..b + 6], r, identity, grade);
 }
 
-// Whether a record is what is looked for.
-fn is_sought(r: Record, x: Sought) -> bool
-    ensures { result ≡ sought_in x r }
+// The lowest slot whose record is a sender's.
+fn find_of(ws: &[u64; WORDS], sender: PortIdentity) -> Option<usize>
+    ensures { result ≡ position (λ s. is_of sender (of_six s)) (records_of ws.now) }
 {
-    match x {
-        Sought::Of(sender) => senders::is_of(r, sender),
-        Sought::Free(w, t) => senders::is_free(r, w, t),
-    }
+    records(ws)
+        .iter()
+        .position(|s| senders::is_of(read(s), sender))
 }
 
-// The lowest slot whose record is a sender's, or 16. This and the next are one search in two functions: each has one caller
-// then, and is made one piece with it.
-fn find_of(ws: &[u64; WORDS], sender: PortIdentity) -> usize
-    ensures { result ≡ first (sought_in (Sought.Of sender)) (slots_of ws.now) }
+// The lowest slot that is empty or expired.
+fn find_free(ws: &[u64; WORDS], w: u64, t: u64) -> Option<usize>
+    ensures { result ≡ position (λ s. is_free w t (of_six s)) (records_of ws.now) }
 {
-    let mut i = 0;
-    while i < SLOTS {
-        if is_sought(load(ws, i), Sought::Of(sender)) {
-            return i;
-        }
-        i += 1;
-    }
-    i
+    records(ws)
+        .iter()
+        .position(|s| senders::is_free(read(s), w, t))
 }
 
-// The lowest slot that is empty or expired, or 16.
-fn find_free(ws: &[u64; WORDS], w: u64, t: u64) -> usize
-    ensures { result ≡ first (sought_in (Sought.Free w t)) (slots_of ws.now) }
+// 11 where `t` lies before the last accepted time.
+fn in_turn(ws: &[u64; WORDS], t: u64) -> Result<(), Refusal>
+    ensures { MatchResult result (λ _. (port_of ws.now).last ≤ t) (λ x. (t < (port_of ws.now).last) × (x ≡ Backward)) }
 {
-    let mut i = 0;
-    while i < SLOTS {
-        if is_sought(load(ws, i), Sought::Free(w, t)) {
-            return i;
-        }
-        i += 1;
+    if t < last(ws) {
+        return Err(Refusal::Backward);
     }
-    i
+    Ok(())
 }
 
 // What an Announce at `t` is to do.
 pub fn plan(ws: &[u64; WORDS], t: u64, a: Notice) -> Result<(usize, Record), Refusal>
     ensures { result ≡ plan_of (port_of ws.now) t a }
 {
-    if t < ws[0] {
-        return Err(Refusal::Backward);
-    }
+    in_turn(ws, t)?;
     let w = senders::window(ws[1]);
-    let sender = a.sender;
-    let i = find_of(ws, sender);
-    if i < SLOTS {
-        return senders::known(load(ws, i), i, w, t, a);
+    match find_of(ws, a.sender) {
+        Some(i) => senders::known(load(ws, i), i, w, t, a),
+        None => senders::unknown(find_free(ws, w, t), t, a),
     }
-    senders::unknown(find_free(ws, w, t), t, a)
 }
 
 // Carries out a plan that puts a record into slot `i`: the record and the time are written. The grandmaster and the word of its
@@ -183,12 +172,15 @@ pub fn slot(ws: &[u64; WORDS], i: usize) -> Option<Record>
 }
 
 // The candidate in slot `i` at `t`; `port` is the port that keeps it.
-pub fn candidate(ws: &[u64; WORDS], port: u8, i: usize, t: u64) -> Result<Option<Candidate>, Refusal>
+pub fn candidate(
+    ws: &[u64; WORDS],
+    port: u8,
+    i: usize,
+    t: u64,
+) -> Result<Option<Candidate>, Refusal>
     ensures { result ≡ asked_of (port_of ws.now) t (candidate_in port (port_of ws.now) i t) }
 {
-    if t < ws[0] {
-        return Err(Refusal::Backward);
-    }
+    in_turn(ws, t)?;
     let w = senders::window(ws[1]);
     if i < SLOTS {
         let r = load(ws, i);
@@ -201,8 +193,7 @@ pub fn candidate(ws: &[u64; WORDS], port: u8, i: usize, t: u64) -> Result<Option
 
 // Whether the record of six words stands before that of six others in rank order, on one port. The quality is one number
 // in its word, highest key first, so that it is compared at once.
-fn stands_before(a: &[u64], b: &[u64]) -> bool
-    requires { (length a.now ≡ 6) × (length b.now ≡ 6) }
+fn stands_before(a: &[u64; RECORD], b: &[u64; RECORD]) -> bool
     ensures { result ≡ before_in a.now b.now }
 {
     let p = a[5];
@@ -232,26 +223,34 @@ fn later_keys(a: u64, b: u64) -> bool
     a / 0x100000000 % 0x10000 < b / 0x100000000 % 0x10000
 }
 
+// The six words from a place on.
+fn record(ws: &[u64; WORDS], at: usize) -> &[u64; RECORD]
+    requires { at + 6 ≤ port_words }
+    ensures { result.now ≡ block ws.now at 6 }
+{
+    ws[at..at + RECORD].as_array().unwrap()
+}
+
 // Whether the record that begins at `a` is qualified and stands before the one that begins at `b`; `b` is 0 where there is none.
 fn outdoes(ws: &[u64; WORDS], a: usize, b: usize, w: u64, t: u64) -> bool
     requires { (a + 6 ≤ port_words) × (b + 6 ≤ port_words) }
     ensures { result ≡ outdoes_in ws.now a b w t }
 {
-    let s = &ws[a..a + 6];
+    let s = record(ws, a);
     if !senders::is_qualified(read(s), w, t) {
         return false;
     }
     if b == 0 {
         return true;
     }
-    stands_before(s, &ws[b..b + 6])
+    stands_before(s, record(ws, b))
 }
 
 // When the window that ends at `t` begins.
 fn since(w: u64, t: u64) -> u64
     ensures { result ≡ t - w }
 {
-    if w <= t { t - w } else { 0 }
+    t.saturating_sub(w)
 }
 
 // Where the record of the best candidate at `t` begins, or 0; from the last slot to the first. A record is qualified at `t`
@@ -276,14 +275,12 @@ fn best_place(ws: &[u64; WORDS], w: u64, t: u64) -> usize
 pub fn best(ws: &[u64; WORDS], port: u8, t: u64) -> Result<Option<Candidate>, Refusal>
     ensures { result ≡ asked_of (port_of ws.now) t (best_of port (port_of ws.now) t) }
 {
-    if t < ws[0] {
-        return Err(Refusal::Backward);
-    }
+    in_turn(ws, t)?;
     let b = best_place(ws, senders::window(ws[1]), t);
     if b == 0 {
         return Ok(None);
     }
-    Ok(Some(senders::candidate(read(&ws[b..b + 6]), port)))
+    Ok(Some(senders::candidate(read(record(ws, b)), port)))
 }
 
 // Where the record of the best candidate at `t` begins in the port's words, or 0 where there is none.
@@ -295,8 +292,7 @@ pub fn place(ws: &[u64; WORDS], t: u64) -> usize
 
 // Whether the record of six words stands before that of six others by the keys that come before the port. Where the
 // others are of a port with a lower number, this is rank order.
-pub fn comes_before(a: &[u64], b: &[u64]) -> bool
-    requires { (length a.now ≡ 6) × (length b.now ≡ 6) }
+pub fn comes_before(a: &[u64; RECORD], b: &[u64; RECORD]) -> bool
     ensures { result ≡ above_in a.now b.now }
 {
     let x = a[5];
