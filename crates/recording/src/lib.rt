@@ -7,7 +7,7 @@
 // 17 (a new block past number 4,294,967,295). Then nothing that was lent has changed. What is recorded is not looked into.
 ghost use Rattle.std.specs.Prelude.{◌≡◌, true, ◌⊎◌, ◌≤◌, leb, length};
 ghost use Rattle.block.specs.Layout.{records_at, longest};
-ghost use Rattle.recording.specs.Recording.{entry_of, next_of, end_of, has_place, check_by, record_check, closes, open_with, words_by, words_with, out_with, recorded_of, open_after, words_after, out_after, is_open, finished, out_by};
+ghost use Rattle.recording.specs.Recording.{entry_of, next_of, last_of, end_of, has_place, check_by, record_check, closes, open_with, words_by, words_with, out_with, recorded_of, open_after, words_after, out_after, is_open, finished, out_by};
 ghost use Rattle.recording.specs.Refusing.{last_number};
 
 use refusal::Refusal;
@@ -35,9 +35,11 @@ fn has_place(end: u64, n: usize) -> bool
 }
 
 // The refusals, in their order.
-fn check(next: u64, last: u64, end: u64, port: u8, t: u64, n: usize) -> Result<(), Refusal>
-    ensures { result ≡ check_by next last end port t n }
+#[tactic(auto, unfolding(crate::specs::Recording::check_by, refusal::specs::Choice::refuse))]
+fn check(words: &[u64; WORDS], port: u8, t: u64, n: usize) -> Result<(), Refusal>
+    ensures { result ≡ check_by (next_of words.now) (last_of words.now) (end_of words.now) port t n }
 {
+    let [next, last, end] = *words;
     if !refusal::is_port(port) {
         return Err(Refusal::Port);
     }
@@ -58,8 +60,7 @@ fn advance(words: &mut [u64; WORDS], t: u64, n: usize)
     requires { (n ≤ longest) × ((has_place (end_of words.old) n ≡ true) ⊎ (next_of words.old ≤ last_number)) }
     ensures { words.new ≡ words_by words.old t n }
 {
-    let next = words[0];
-    let end = words[2];
+    let [next, _, end] = *words;
     let size = (block::HEAD + n) as u64;
     if has_place(end, n) {
         *words = [next, t, end + size];
@@ -95,8 +96,7 @@ fn put(
     ensures words { words.new ≡ words_with words.old (entry_of t port message.now) }
     ensures octets { out.new ≡ out_with opened.old words.old (entry_of t port message.now) out.old }
 {
-    let next = words[0];
-    let end = words[2];
+    let [next, _, end] = *words;
     advance(words, t, message.len());
     if has_place(end, message.len()) {
         block::making::add(&mut opened[..], end as usize, t, port, message);
@@ -114,7 +114,7 @@ pub fn foresee(words: &mut [u64; WORDS], port: u8, t: u64, message: &[u8]) -> Re
     ensures words { words.new ≡ words_after words.old (entry_of t port message.now) }
 {
     let n = message.len();
-    check(words[0], words[1], words[2], port, t, n)?;
+    check(words, port, t, n)?;
     advance(words, t, n);
     Ok(())
 }
@@ -133,7 +133,7 @@ pub fn record(
     ensures words { words.new ≡ words_after words.old (entry_of t port message.now) }
     ensures octets { out.new ≡ out_after opened.old words.old (entry_of t port message.now) out.old }
 {
-    check(words[0], words[1], words[2], port, t, message.len())?;
+    check(words, port, t, message.len())?;
     Ok(put(opened, words, port, t, message, out))
 }
 
