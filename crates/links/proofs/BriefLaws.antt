@@ -97,10 +97,12 @@ module _ (s : Settings) where
   only_one Calibrated = refl
   only_one RespCalibReq = refl
 
-pub mode_on_is : (n : ℕ) → n < 2 → sent_first (mode_on_of (role_of n)) ≡ WR-MODE-ON * n
-mode_on_is zero h = refl
-mode_on_is (suc zero) h = refl
-mode_on_is (suc (suc n)) h = absurd (omega arith)
+pub mode_on_is : (n : ℕ) → sent_first (mode_on_of (role_of n)) ≡ pick (eqb n 1) WR-MODE-ON 0
+mode_on_is n = by (eqb n 1)
+  where
+    by : (b : Bool) → sent_first (mode_on_of (pick b Master Slave)) ≡ pick b WR-MODE-ON 0
+    by true = refl
+    by false = refl
 
 pub mode_on_alone : (role : Role) → sent_both (mode_on_of role) ≡ false
 mode_on_alone Slave = refl

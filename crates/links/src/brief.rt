@@ -1,6 +1,8 @@
 #![tactic(auto, using(crate::proofs::BriefLaws::brief_laws), unfolding(crate::specs::Brief::brief_of, crate::specs::Words::link_of, crate::specs::Words::settings_of, link::specs::Machine::stepped))]
 // A step in numbers, from the word that holds a link to the word that holds it afterwards: what a host is answered is written
 // from these, with no values in between. What a link's CALIBRATED carries plays no part here, so its settings are one word.
+//
+// These functions stay beside those of `link`: written from what link::step answers, a call takes 193 instructions, and 120 are allowed.
 ghost use Rattle.std.specs.Prelude.{◌≡◌};
 ghost use Rattle.link.specs.Machine.{in_state, ignored, entered, link_on, resent, left, taken, stepped};
 ghost use Rattle.links.specs.Words.{word_of, link_of, settings_of};
@@ -79,7 +81,7 @@ fn link_on(w: u64) -> Brief
     let role = w / 8 % 2;
     Brief {
         word: 8 * role + 16,
-        sends: u64::from(MODE_ON) * role,
+        sends: if role == 1 { MODE_ON.into() } else { 0 },
         both: false,
         report: true,
     }
