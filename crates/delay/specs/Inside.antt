@@ -1,7 +1,7 @@
 -- What the code works with: signed numbers raised by a fixed amount, so that they are natural ones.
 use Rattle.std.specs.Prelude.{◌≡◌, false, ℕ, ◌+◌, ◌*◌, ◌^◌, ◌<◌, ℤ, pos, ◌+ℤ◌, ◌-ℤ◌, Option, Some, None}
 use Rattle.signed.specs.Limits.{within, Within}
-use Rattle.delay.specs.declared.Time.{Time}
+use Rattle.delay.specs.declared.time.Time.{Time}
 use Rattle.delay.specs.declared.Exchange.{Exchange}
 use Rattle.delay.specs.Delay.{second, M, share}
 use Rattle.delay.specs.Range.{in_range, InRange}
@@ -10,15 +10,9 @@ use Rattle.delay.specs.Range.{in_range, InRange}
 abbrev pub time_of : Time → ℕ
 time_of t = t.seconds * second + t.part
 
--- a time whose sizes the code can work with
-pub record Fair (t : Time) : Type 0 where
-  pub seconds : t.seconds < 2 ^ 48
-  pub part : t.part < 2 ^ 50
-
 -- t is the time z, raised by 2^48
-pub record TimeIs (z : ℤ) (t : Time) : Type 0 where
-  pub is : pos (time_of t) ≡ z +ℤ pos (2 ^ 48)
-  pub fair : Fair t
+abbrev pub TimeIs : ℤ → Time → Type 0
+TimeIs z t = pos (time_of t) ≡ z +ℤ pos (2 ^ 48)
 
 -- z within its limit and raised by 2^47, or outside it
 abbrev pub SpanIs : ℤ → Option ℕ → Type 0

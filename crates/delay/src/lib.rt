@@ -11,10 +11,13 @@ ghost use Rattle.signed.specs.Limits.{Within};
 ghost use Rattle.delay.specs.Delay.{fine, t1, t2, t3, t4, in_ns, delay, second, in_seconds};
 ghost use Rattle.delay.specs.Range.{corrections_good, latencies_good, stamp_good, stamps_good, inputs_good, StampIn, LatenciesIn, InputsIn};
 ghost use Rattle.delay.specs.Answer.{measure_of};
-ghost use Rattle.delay.specs.Inside.{time_of, Fair, TimeIs, SpanIs, MIs, ShareIs, DelayIs};
+ghost use Rattle.delay.specs.Inside.{time_of, TimeIs, SpanIs, MIs, ShareIs, DelayIs};
+
+mod time;
 
 use quotient::Part;
 use refusal::Refusal;
+use time::Time;
 
 // Nanoseconds times 2^16: corrections, D, the delay.
 #[derive(Clone, Copy)]
@@ -188,13 +191,6 @@ fn numerator(a: Asymmetry) -> u64
     signed::raised(a.0, TWO_40)
 }
 
-// A time, raised by 2^48: whole seconds, and a part in nanoseconds times 2^16 that may be several seconds.
-#[derive(Clone, Copy)]
-struct Time {
-    seconds: u64,
-    part: u64,
-}
-
 // t1, with the Sync and Follow_Up corrections added.
 fn t1(x: Exchange) -> Time
     requires { InputsIn x }
@@ -247,7 +243,6 @@ fn apart(over: u64, under: u64) -> Option<u64>
 
 // a - b, raised by 2^47, where it lies strictly between -2^47 and 2^47. Mostly both are in the same second.
 fn between(a: Time, b: Time) -> Option<u64>
-    requires { Fair a × Fair b }
     ensures { SpanIs (pos (time_of a) -ℤ pos (time_of b)) result }
 {
     let s = a.seconds;
@@ -368,7 +363,7 @@ fn split(parts: u64) -> Part
 
 // t2 - t1 - delay, in whole seconds and a rest. The times are raised alike, the delay by 2^49.
 fn offset_of(t2: Time, t1: Time, delay: u64) -> Offset
-    requires { Fair t2 × Fair t1 × (delay < 2 ^ 51) }
+    requires { delay < 2 ^ 51 }
     ensures { result ≡ in_seconds (pos (time_of t2) -ℤ pos (time_of t1) -ℤ (pos delay -ℤ pos (2 ^ 49))) }
 {
     let parts = split(t2.part + SECONDS_64 + TWO_49 - t1.part - delay);

@@ -11,5 +11,5 @@ pub returns : goal.returns
 unfolding t2 t3
 returns c =
     let x = c.args.x in
-    let e = raised_alike (t3 x) (t2 x) _ _ (2 ^ 48) c.slave_time.ensures.is c.slave_time-2.ensures.is in
+    let e = raised_alike (t3 x) (t2 x) _ _ (2 ^ 48) c.slave_time.ensures c.slave_time-2.ensures in
     subst (λ (z : ℤ). SpanIs z c.between.result) e c.between.ensures

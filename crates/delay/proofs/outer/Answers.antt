@@ -10,5 +10,5 @@ use Rattle.delay.proofs.outer.Goals as goal
 pub returns : goal.returns
 returns c =
     let x = c.args.x in
-    let e = raised_alike (t4 x) (t1 x) _ _ (2 ^ 48) c.t4.ensures.is c.t1.ensures.is in
+    let e = raised_alike (t4 x) (t1 x) _ _ (2 ^ 48) c.t4.ensures c.t1.ensures in
     subst (λ (z : ℤ). SpanIs z c.between.result) e c.between.ensures

@@ -17,4 +17,4 @@ returns c =
     let f = raised_is x.corrections.follow.0 c.raised-2.result c.requires.corrections.follow c.raised-2.ensures in
     let l = add_law (pos (coarse x.stamps.t1)) x.corrections.sync.0 in
     let m = add_law (pos (coarse x.stamps.t1) +ℤ x.corrections.sync.0) x.corrections.follow.0 in
-    record { is = raised_of (t1 x) (2 ^ 48) _ (omega arith); fair = omega arith }
+    raised_of (t1 x) (2 ^ 48) _ (omega arith)

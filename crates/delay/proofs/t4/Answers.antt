@@ -15,4 +15,4 @@ returns c =
     let s = raised_is x.corrections.resp.0 c.raised.result c.requires.corrections.resp c.raised.ensures in
     let n = shifted x.stamps.t4.nanos 65536 (omega arith) in
     let l = sub_law (pos (coarse x.stamps.t4)) x.corrections.resp.0 in
-    record { is = raised_of (t4 x) (2 ^ 48) _ (omega arith); fair = omega arith }
+    raised_of (t4 x) (2 ^ 48) _ (omega arith)
