@@ -105,17 +105,7 @@ pub fn write_link(
     ensures answer { result ≡ write_of magic (signaling header target) (link_octets magic x) out.old }
     ensures buffer { out.new ≡ buffer_of magic (signaling header target) (link_octets magic x) out.old }
 {
-    let t = link(x, magic);
-    let octets = t.octets;
-    let size = t.size;
-    let tail = &octets[..size];
-    writer::writing::write(
-        out,
-        Message {
-            header,
-            body: Body::Signaling(target),
-        },
-        tail,
-        magic,
-    )
+    let WrTlv { octets, size } = link(x, magic);
+    let body = Body::Signaling(target);
+    writer::writing::write(out, Message { header, body }, &octets[..size], magic)
 }
