@@ -82,9 +82,8 @@ pub fn put_lead(out: &mut [u8], h: Header, kind: u8, size: u16)
     requires { (h.transport < 16) × (kind < 16) × (20 ≤ length out.old) }
     ensures { out.new ≡ over out.old 0 (lead_octets h kind size []) }
 {
-    let correction = h.correction.cast_unsigned();
     put_start(out, h, kind, size);
-    stores::eight(out, 8, correction);
+    stores::eight(out, 8, h.correction.cast_unsigned());
     stores::four(out, 16, 0);
 }
 
@@ -93,10 +92,9 @@ pub fn put_close(out: &mut [u8], h: Header, control: u8)
     requires { 34 ≤ length out.old }
     ensures { out.new ≡ over out.old 30 (close_octets h control []) }
 {
-    let interval = h.interval.cast_unsigned();
     stores::two(out, 30, h.sequence as u64);
     stores::one(out, 32, control);
-    stores::one(out, 33, interval);
+    stores::one(out, 33, h.interval.cast_unsigned());
 }
 
 // Octets 44 to 49 of an Announce.
@@ -104,8 +102,7 @@ fn put_offset(out: &mut [u8], a: Announce)
     requires { 64 ≤ length out.old }
     ensures { out.new ≡ over out.old 44 (offset_octets a) }
 {
-    let utc = a.utc.cast_unsigned();
-    stores::two(out, 44, utc as u64);
+    stores::two(out, 44, a.utc.cast_unsigned() as u64);
     stores::one(out, 46, RESERVED);
     stores::one(out, 47, a.priority1);
     stores::one(out, 48, a.class);

@@ -18,7 +18,7 @@ returns c =
     let s = c.args in
     let d = s.out.now in
     let h = s.h in
-    let e : c.cast_unsigned-interval.result ≡ of_z w8 h.interval = c.cast_unsigned-interval.ensures ∙ ap (of_z w8) (to_z-of_z w8 h.interval ((let it : SFits w8 c.args.h.interval = search rules in it))) in
+    let e : c.cast_unsigned.result ≡ of_z w8 h.interval = c.cast_unsigned.ensures ∙ ap (of_z w8) (to_z-of_z w8 h.interval ((let it : SFits w8 c.args.h.interval = search rules in it))) in
     put_two d 30 (omega arith) (octets_of 2 h.sequence (s.control ∷ [])) (of_z w8 h.interval ∷ []) refl refl (ap (λ (n : ℕ). n ∷ []) e)
     (put_two d 30 (omega arith) (octets_of 2 h.sequence []) (s.control ∷ []) refl refl refl c.two.ensures c.one.ensures)
     c.one-2.ensures

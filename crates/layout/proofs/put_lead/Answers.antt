@@ -19,7 +19,7 @@ returns c =
     let s = c.args in
     let d = s.out.now in
     let h = s.h in
-    let e : c.cast_unsigned-correction.result ≡ of_z w64 h.correction = c.cast_unsigned-correction.ensures ∙ ap (of_z w64) (to_z-of_z w64 h.correction ((let it : SFits w64 c.args.h.correction = search rules in it))) in
+    let e : c.cast_unsigned.result ≡ of_z w64 h.correction = c.cast_unsigned.ensures ∙ ap (of_z w64) (to_z-of_z w64 h.correction ((let it : SFits w64 c.args.h.correction = search rules in it))) in
     let o8 = start_octets h s.kind s.size in
     let c8 = octets_of 8 (of_z w64 h.correction) [] in
     put_two d 0 (omega arith) (o8 ++ c8) (octets_of 4 0 []) refl refl refl

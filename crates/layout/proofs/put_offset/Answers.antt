@@ -19,7 +19,7 @@ returns c =
     let d = s.out.now in
     let a = s.a in
     let u = of_z w16 a.utc in
-    let e : c.cast_unsigned-utc.result ≡ u = c.cast_unsigned-utc.ensures ∙ ap (of_z w16) (to_z-of_z w16 a.utc ((let it : SFits w16 c.args.a.utc = search rules in it))) in
+    let e : c.cast_unsigned.result ≡ u = c.cast_unsigned.ensures ∙ ap (of_z w16) (to_z-of_z w16 a.utc ((let it : SFits w16 c.args.a.utc = search rules in it))) in
     put_two d 44 (omega arith) (octets_of 2 u (0 ∷ a.priority1 ∷ a.class ∷ [])) (a.accuracy ∷ []) refl refl refl
     (put_two d 44 (omega arith) (octets_of 2 u (0 ∷ a.priority1 ∷ [])) (a.class ∷ []) refl refl refl
     (put_two d 44 (omega arith) (octets_of 2 u (0 ∷ [])) (a.priority1 ∷ []) refl refl refl
