@@ -85,14 +85,15 @@ pub fn form_of(s: &[u8]) -> Form
 {
     let big = unit_under(octets::held::u32_at(s, 0));
     if big == 0 {
-        return Form {
+        Form {
             little: true,
             unit: unit_under(low4(s, 0)),
-        };
-    }
-    Form {
-        little: false,
-        unit: big,
+        }
+    } else {
+        Form {
+            little: false,
+            unit: big,
+        }
     }
 }
 

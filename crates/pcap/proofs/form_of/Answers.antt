@@ -9,7 +9,7 @@ unfolding form_of
 returns-then-big-eq0 c =
     rw (← c.u32_at.ensures, ← c.unit_under-big.ensures, eq-eqb c.unit_under-big.result 0 (omega arith), ← c.low4.ensures, ← c.unit_under.ensures)
 
-pub returns : goal.returns
+pub returns-else-big-eq0 : goal.returns-else-big-eq0
 unfolding form_of
-returns c =
+returns-else-big-eq0 c =
     rw (← c.u32_at.ensures, ← c.unit_under-big.ensures, ne_eqb c.unit_under-big.result 0 (omega arith))
