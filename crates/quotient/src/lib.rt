@@ -169,6 +169,7 @@ pub fn times(k: u64, n: u64) -> u64
     let mut left = k;
     let mut unit = n;
     let mut sum = 0;
+    // The loop stays: as many turns as k has digits, and none for a 0, so there is no range to go over.
     while 0 < left {
         sum += last(left, unit);
         unit += unit;
