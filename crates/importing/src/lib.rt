@@ -13,17 +13,20 @@ use pcap::{FRAME, Form, PTP};
 use refusal::Refusal;
 
 // Whether a frame holds a PTP message.
+#[tactic(auto, unfolding(crate::specs::Importing::is_ptp))]
 fn is_ptp(frame: &[u8]) -> bool
     ensures { result ≡ is_ptp frame.now }
 {
-    if frame.len() < FRAME {
-        return false;
-    }
-    octets::held::u16_at(frame, 12) == PTP
+    FRAME <= frame.len() && octets::held::u16_at(frame, 12) == PTP
 }
 
 // Whether recording would take a frame, and the recording's words behind it; no octet is recorded.
-fn foresee(words: &mut [u64; recording::WORDS], port: u8, t: u64, frame: &[u8]) -> Result<(), Refusal>
+fn foresee(
+    words: &mut [u64; recording::WORDS],
+    port: u8,
+    t: u64,
+    frame: &[u8],
+) -> Result<(), Refusal>
     ensures answer { result ≡ frame_check words.old port (record { time = t; octets = frame.now }) }
     ensures words { words.new ≡ words_behind words.old port (record { time = t; octets = frame.now }) }
 {
@@ -59,35 +62,34 @@ fn weigh(file: &[u8], form: Form, port: u8) -> Result<u64, Refusal>
     ensures { result ≡ weight_of port (frames_in form file.now) }
 {
     let mut words: [u64; recording::WORDS] = [0; recording::WORDS];
-    let mut at: usize = pcap::HEAD;
+    let mut at = pcap::HEAD;
+    // The loops over packets stay: the next one's place is read from the head of the one before it.
     while at < file.len() {
         let rest = &file[at..];
         let t = pcap::time(form, rest);
         let size = pcap::size(form, rest);
-        let told = foresee(&mut words, port, t, &rest[pcap::PACKET..size]);
-        match told {
-            Err(x) => return Err(x),
-            Ok(()) => {}
-        }
+        foresee(&mut words, port, t, &rest[pcap::PACKET..size])?;
         at += size;
     }
     Ok(words[0])
 }
 
 // A block that came out goes to `to`: where the next goes.
-fn store(out: &mut [u8], to: usize, told: Result<bool, Refusal>, closed: &[u8; block::OCTETS]) -> usize
+fn store(
+    out: &mut [u8],
+    to: usize,
+    told: Result<bool, Refusal>,
+    closed: &[u8; block::OCTETS],
+) -> usize
     requires { to + length (came_out told closed.now) ≤ length out.old }
     ensures place { result ≡ to + length (came_out told closed.now) }
     ensures octets { out.new ≡ over out.old to (came_out told closed.now) }
 {
-    match told {
-        Err(_) => to,
-        Ok(false) => to,
-        Ok(true) => {
-            stores::copy_in(out, to, &closed[..]);
-            to + block::OCTETS
-        }
-    }
+    let Ok(true) = told else {
+        return to;
+    };
+    stores::copy_in(out, to, &closed[..]);
+    to + block::OCTETS
 }
 
 // The open block, closed, goes to `to`, where there is one.
@@ -141,14 +143,10 @@ pub fn import(out: &mut [u8], port: u8, file: &[u8]) -> Result<usize, Refusal>
         return Err(Refusal::Port);
     }
     let form = pcap::form_of(file);
-    match weigh(file, form, port) {
-        Err(x) => Err(x),
-        Ok(n) => {
-            if out.len() / block::OCTETS < n as usize {
-                return Err(Refusal::Room);
-            }
-            fill(out, file, form, port);
-            Ok(n as usize * block::OCTETS)
-        }
+    let n = weigh(file, form, port)?;
+    if out.len() / block::OCTETS < n as usize {
+        return Err(Refusal::Room);
     }
+    fill(out, file, form, port);
+    Ok(n as usize * block::OCTETS)
 }

@@ -1,5 +1,6 @@
 -- `import` meets its contract: check by check, in their order; and the blocks that were counted are those of the trace.
 use Rattle.std.specs.Prelude.{Ok}
+use Rattle.std.proofs.lemmas.Result.{err_from_is_err_and}
 use Prim.Native.Nat.{ℕ, ◌*◌, ◌/◌, ◌≤◌, ◌<◌}
 use mathlib.Core.Path.{◌≡◌, sym, ap, subst, ◌∙◌}
 use mathlib.Core.Bool.{true}
@@ -49,8 +50,8 @@ returns-then-out-n c =
     let is : is_capture file ≡ true = sym c.is_capture.ensures ∙ c.if-not-is_capture.false in
     let on : is_port a.port ≡ true = sym c.is_port.ensures ∙ c.if-not-is_port.false in
     let told : c.weigh.result ≡ weight_of a.port (frames_of file) = c.weigh.ensures ∙ ap (λ (g : Form). weight_of a.port (frames_in g file)) c.form_of-form.ensures in
-    let b = weight_blocks (records_check fresh_words (records_in a.port file)) (next_of (words_after_all fresh_words (records_in a.port file))) c.in-Ok.n (sym c.in-Ok.is ∙ told) in
-    let l : length (trace_by (records_in a.port file)) ≡ 512 * c.in-Ok.n = trace_length (records_in a.port file) ∙ sym (ap (λ (m : ℕ). 512 * m) b.1) in
+    let b = weight_blocks (records_check fresh_words (records_in a.port file)) (next_of (words_after_all fresh_words (records_in a.port file))) c.in_ok-n.n (sym c.in_ok-n.was ∙ told) in
+    let l : length (trace_by (records_in a.port file)) ≡ 512 * c.in_ok-n.n = trace_length (records_in a.port file) ∙ sym (ap (λ (m : ℕ). 512 * m) b.1) in
     let p = tells_refusal a.out.now a.port file _ (no_room (length a.out.now) a.port file is on b.0 (fewer _ _ _ l c.if-out-n.true)) in
     record { answer = p.0; octets = p.1 }
 
@@ -61,40 +62,41 @@ fill-requires c =
     let is : is_capture file ≡ true = sym c.is_capture.ensures ∙ c.if-not-is_capture.false in
     let on : is_port a.port ≡ true = sym c.is_port.ensures ∙ c.if-not-is_port.false in
     let told : c.weigh.result ≡ weight_of a.port (frames_of file) = c.weigh.ensures ∙ ap (λ (g : Form). weight_of a.port (frames_in g file)) c.form_of-form.ensures in
-    let b = weight_blocks (records_check fresh_words (records_in a.port file)) (next_of (words_after_all fresh_words (records_in a.port file))) c.in-Ok.n (sym c.in-Ok.is ∙ told) in
-    let l : length (trace_by (records_in a.port file)) ≡ 512 * c.in-Ok.n = trace_length (records_in a.port file) ∙ sym (ap (λ (m : ℕ). 512 * m) b.1) in (
+    let b = weight_blocks (records_check fresh_words (records_in a.port file)) (next_of (words_after_all fresh_words (records_in a.port file))) c.in_ok-n.n (sym c.in_ok-n.was ∙ told) in
+    let l : length (trace_by (records_in a.port file)) ≡ 512 * c.in_ok-n.n = trace_length (records_in a.port file) ∙ sym (ap (λ (m : ℕ). 512 * m) b.1) in (
       subst (λ (g : Form). is_capture_in g file ≡ true) (sym c.form_of-form.ensures) is,
       subst (λ (g : Form). length (trace_by (taken_of a.port (frames_in g file))) ≤ length a.out.now) (sym c.form_of-form.ensures) (enough _ _ _ l c.if-out-n.false),
     )
 
-pub returns-in-Err : goal.returns-in-Err
-returns-in-Err c =
+pub returns-in_err-n : goal.returns-in_err-n
+returns-in_err-n c =
     let a = c.args in
     let file = a.file.now in
     let is : is_capture file ≡ true = sym c.is_capture.ensures ∙ c.if-not-is_capture.false in
     let on : is_port a.port ≡ true = sym c.is_port.ensures ∙ c.if-not-is_port.false in
     let told : c.weigh.result ≡ weight_of a.port (frames_of file) = c.weigh.ensures ∙ ap (λ (g : Form). weight_of a.port (frames_in g file)) c.form_of-form.ensures in
-    let p = tells_refusal a.out.now a.port file _ (one_refused (length a.out.now) a.port file is on _ (weight_refused (records_check fresh_words (records_in a.port file)) (next_of (words_after_all fresh_words (records_in a.port file))) c.in-Err.x (sym c.in-Err.is ∙ told))) in
-    record { answer = p.0; octets = p.1 }
+    let p = tells_refusal a.out.now a.port file _ (one_refused (length a.out.now) a.port file is on _ (weight_refused (records_check fresh_words (records_in a.port file)) (next_of (words_after_all fresh_words (records_in a.port file))) c.in_err-n.field-0.0 (sym c.in_err-n.was ∙ told))) in
+    let e = err_from_is_err_and c.from_residual.result c.from_residual.ensures.1 in
+    record { answer = rw (e.1, e.2) p.0; octets = p.1 }
 
-pub returns-else-out-n-clause-answer : goal.returns-else-out-n-clause-answer
-returns-else-out-n-clause-answer c =
+pub returns-clause-answer : goal.returns-clause-answer
+returns-clause-answer c =
     let a = c.args in
     let file = a.file.now in
     let is : is_capture file ≡ true = sym c.is_capture.ensures ∙ c.if-not-is_capture.false in
     let on : is_port a.port ≡ true = sym c.is_port.ensures ∙ c.if-not-is_port.false in
     let told : c.weigh.result ≡ weight_of a.port (frames_of file) = c.weigh.ensures ∙ ap (λ (g : Form). weight_of a.port (frames_in g file)) c.form_of-form.ensures in
-    let b = weight_blocks (records_check fresh_words (records_in a.port file)) (next_of (words_after_all fresh_words (records_in a.port file))) c.in-Ok.n (sym c.in-Ok.is ∙ told) in
-    let l : length (trace_by (records_in a.port file)) ≡ 512 * c.in-Ok.n = trace_length (records_in a.port file) ∙ sym (ap (λ (m : ℕ). 512 * m) b.1) in
+    let b = weight_blocks (records_check fresh_words (records_in a.port file)) (next_of (words_after_all fresh_words (records_in a.port file))) c.in_ok-n.n (sym c.in_ok-n.was ∙ told) in
+    let l : length (trace_by (records_in a.port file)) ≡ 512 * c.in_ok-n.n = trace_length (records_in a.port file) ∙ sym (ap (λ (m : ℕ). 512 * m) b.1) in
     let t = tells_octets a.out.now a.port file _ (imported (length a.out.now) a.port file is on b.0 (enough _ _ _ l c.if-out-n.false)) in ap Ok (omega (arith, l)) ∙ t.0
 
-pub returns-else-out-n-clause-octets : goal.returns-else-out-n-clause-octets
-returns-else-out-n-clause-octets c =
+pub returns-clause-octets : goal.returns-clause-octets
+returns-clause-octets c =
     let a = c.args in
     let file = a.file.now in
     let is : is_capture file ≡ true = sym c.is_capture.ensures ∙ c.if-not-is_capture.false in
     let on : is_port a.port ≡ true = sym c.is_port.ensures ∙ c.if-not-is_port.false in
     let told : c.weigh.result ≡ weight_of a.port (frames_of file) = c.weigh.ensures ∙ ap (λ (g : Form). weight_of a.port (frames_in g file)) c.form_of-form.ensures in
-    let b = weight_blocks (records_check fresh_words (records_in a.port file)) (next_of (words_after_all fresh_words (records_in a.port file))) c.in-Ok.n (sym c.in-Ok.is ∙ told) in
-    let l : length (trace_by (records_in a.port file)) ≡ 512 * c.in-Ok.n = trace_length (records_in a.port file) ∙ sym (ap (λ (m : ℕ). 512 * m) b.1) in
+    let b = weight_blocks (records_check fresh_words (records_in a.port file)) (next_of (words_after_all fresh_words (records_in a.port file))) c.in_ok-n.n (sym c.in_ok-n.was ∙ told) in
+    let l : length (trace_by (records_in a.port file)) ≡ 512 * c.in_ok-n.n = trace_length (records_in a.port file) ∙ sym (ap (λ (m : ℕ). 512 * m) b.1) in
     let t = tells_octets a.out.now a.port file _ (imported (length a.out.now) a.port file is on b.0 (enough _ _ _ l c.if-out-n.false)) in c.fill.ensures ∙ ap (λ (g : Form). over a.out.now 0 (trace_by (taken_of a.port (frames_in g file)))) c.form_of-form.ensures ∙ t.1

@@ -1,4 +1,5 @@
 -- `weigh` meets its contract: the loop's invariant says that the frames that are left, behind the words of those before them, come to what all come to.
+use Rattle.std.proofs.lemmas.Result.{err_from_is_err_and}
 use Prim.Native.Nat.{ℕ, ◌+◌}
 use mathlib.Core.Path.{refl, sym, ap, ◌∙◌}
 use mathlib.Core.List.{List}
@@ -30,15 +31,17 @@ slice_bounds-foresee-end c =
     frame_here a.form a.file.now c.loop-at.at c.loop-at-test.true c.loop-at.invariant.1 _ (lent_rest a.file.now c.loop-at.at c.loop-at.invariant.0) c.size-size.result c.time-t.result c.size-size.ensures c.time-t.ensures in
     k.whole
 
-pub returns-in-Err : goal.returns-in-Err
-returns-in-Err c =
+pub returns-in_err-foresee : goal.returns-in_err-foresee
+returns-in_err-foresee c =
     let a = c.args in
     let k =
     frame_here a.form a.file.now c.loop-at.at c.loop-at-test.true c.loop-at.invariant.1 _ (lent_rest a.file.now c.loop-at.at c.loop-at.invariant.0) c.size-size.result c.time-t.result c.size-size.ensures c.time-t.ensures in
     let f = frames_from a.form a.file.now (c.loop-at.at + c.size-size.result) in
-    sym (weight_stop c.loop-at.words a.port _ f c.in-Err.x (sym c.foresee-told.ensures.answer ∙ c.in-Err.is))
+    let e = err_from_is_err_and c.from_residual.result c.from_residual.ensures.1 in
+    rw (e.1, e.2)
+    (sym (weight_stop c.loop-at.words a.port _ f c.in_err-foresee.field-0.0 (sym c.foresee.ensures.answer ∙ c.in_err-foresee.was))
     ∙ sym (ap (weight_from c.loop-at.words a.port) k.frames)
-    ∙ c.loop-at.invariant.2
+    ∙ c.loop-at.invariant.2)
 
 pub overflow_add-at : goal.overflow_add-at
 overflow_add-at c =
@@ -55,8 +58,8 @@ loop-at-preserved c =
     let f = frames_from a.form a.file.now (c.loop-at.at + c.size-size.result) in (
       k.inside,
       k.sound,
-      ap (λ (ws : List ℕ). weight_from ws a.port f) c.foresee-told.ensures.words
-          ∙ sym (weight_more c.loop-at.words a.port _ f (sym c.foresee-told.ensures.answer ∙ c.in-Ok.is))
+      ap (λ (ws : List ℕ). weight_from ws a.port f) c.foresee.ensures.words
+          ∙ sym (weight_more c.loop-at.words a.port _ f (sym c.foresee.ensures.answer ∙ c.in_ok-foresee.was))
           ∙ sym (ap (weight_from c.loop-at.words a.port) k.frames)
           ∙ c.loop-at.invariant.2,
     )
