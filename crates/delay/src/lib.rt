@@ -192,6 +192,7 @@ fn numerator(a: Asymmetry) -> u64
 }
 
 // t1, with the Sync and Follow_Up corrections added.
+// The limits stay a clause here and in t4, outer and inner: a struct that held them would be read through at each field.
 fn t1(x: Exchange) -> Time
     requires { InputsIn x }
     ensures { TimeIs (t1 x) result }

@@ -98,7 +98,7 @@ fn settings_of(w: u64, tx: u64, rx: u64) -> Settings
     }
 }
 
-// Where a port's four words begin.
+// Where a port's four words begin. They are reached by index: of words written through `as_chunks_mut` its contract says nothing.
 pub fn place(port: u8) -> Result<usize, Refusal>
     ensures answer { result ≡ refuse (not (IsPort port)) (Err Port) (Ok (base port)) }
     ensures within { IfOk result (λ at. at ≤ 68) }
