@@ -18,30 +18,26 @@ pub const PACKET: usize = 2;
 fn words_of(form: Form) -> [u64; FORM]
     ensures { result ≡ form_words form }
 {
-    let unit = form.unit as u64;
-    if form.little { [1, unit] } else { [0, unit] }
+    [u64::from(form.little), u64::from(form.unit)]
 }
 
 // The unit that a word tells, 0 where it is none.
 fn unit_by(word: u64) -> u16
     ensures { result ≡ unit_by word }
 {
-    if word == 1000 {
-        return 1000;
+    match word {
+        1000 => 1000,
+        1 => 1,
+        _ => 0,
     }
-    if word == 1 {
-        return 1;
-    }
-    0
 }
 
 fn form_by(words: &[u64; FORM]) -> Form
     ensures { result ≡ form_by words.now }
 {
-    let unit = unit_by(words[1]);
     Form {
         little: words[0] != 0,
-        unit,
+        unit: unit_by(words[1]),
     }
 }
 
@@ -62,9 +58,7 @@ pub fn put_form(form: &mut [u64; FORM], head: &[u8; pcap::HEAD]) -> u64
 fn is_sound(is: Form, head: &[u8; pcap::PACKET]) -> bool
     ensures { result ≡ (not (eqb is.unit 0) && is_packet_head is head.now) }
 {
-    let unit = is.unit;
-    let sound = pcap::is_packet_head(is, &head[..]);
-    (unit != 0) & sound
+    is.unit != 0 && pcap::is_packet_head(is, &head[..])
 }
 
 // What the head of a packet says, in a file of a form.
@@ -78,6 +72,6 @@ pub fn put_packet(packet: &mut [u64; PACKET], form: &[u64; FORM], head: &[u8; pc
     }
     let t = pcap::time(is, &head[..]);
     let stored = pcap::stored(is, &head[..]);
-    *packet = [t, stored as u64];
+    *packet = [t, u64::from(stored)];
     0
 }
