@@ -1,7 +1,7 @@
 // Searches over a tail: the first TLV that is looked for, the data of the first of a type, and whether nothing is wrong.
-ghost use Rattle.std.specs.Prelude.{◌≡◌};
+ghost use Rattle.std.specs.Prelude.{◌≡◌, ℕ, Bool, Option};
 ghost use Rattle.tlv.specs.Walk.{first, data_at, Fits};
-ghost use Rattle.tlv.specs.Form.{is_link};
+ghost use Rattle.tlv.specs.Form.{is_link, numbered};
 ghost use Rattle.tlv.specs.Faults.{sought_at, is_sound, sound_of};
 
 use tlv::form;
@@ -62,43 +62,39 @@ pub fn data_of(t: &[u8], kind: u16) -> &[u8]
     }
 }
 
-// Whether nothing is wrong with a tail. This and the walk below are for a reader that hopes so: they end at the first thing that is
-// wrong, and do not say what. Each has one caller and is made one piece with it.
-pub fn is_sound(t: &[u8], magic: u16) -> bool
-    ensures { result ≡ is_sound magic t.now }
+// Where the first TLV stands that passes a test, in a sound tail; its end where there is none. This is for a reader that hopes that nothing is
+// wrong: it ends at the first thing that is, and does not say what. Each call is made one piece with its caller.
+fn sound_first<F: Fn(usize, Option<u16>) -> bool>(t: &[u8], magic: u16, passes: F) -> Option<usize>
+    requires { (p : ℕ) (x : Option ℕ) → Fits t.now p → F.pre passes p x }
+    ensures { (test : ℕ → Bool) → ((p : ℕ) (b : Bool) → F.post passes p (numbered magic t.now p) b → b ≡ test p) → result ≡ sound_of magic test t.now }
 {
+    let mut found = t.len();
     let mut at: usize = 0;
     while at < t.len() {
-        let Some(p) = tlv::walk::step(t, at) else {
-            return false;
-        };
+        let p = tlv::walk::step(t, at)?;
         let l = p - at - 4;
         let x = form::number_at(t, at, l, magic);
         if form::misfits(x, l) {
-            return false;
+            return None;
+        }
+        if passes(at, x) && found == t.len() {
+            found = at;
         }
         at = p;
     }
-    true
+    Some(found)
+}
+
+// Whether nothing is wrong with a tail.
+pub fn is_sound(t: &[u8], magic: u16) -> bool
+    ensures { result ≡ is_sound magic t.now }
+{
+    sound_first(t, magic, |_, _| false).is_some()
 }
 
 // Where the first TLV of a type stands in a sound tail.
 pub fn sound_place(t: &[u8], kind: u16, magic: u16) -> Option<usize>
     ensures { result ≡ sound_of magic (sought_at (Sought.OfType kind) t.now) t.now }
 {
-    let mut found = t.len();
-    let mut at: usize = 0;
-    while at < t.len() {
-        let Some(p) = tlv::walk::step(t, at) else {
-            return None;
-        };
-        let l = p - at - 4;
-        let x = form::number_at(t, at, l, magic);
-        if form::misfits(x, l) {
-            return None;
-        }
-        found = tlv::walk::later(t.len(), found, at, octets::held::u16_at(t, at) == kind);
-        at = p;
-    }
-    Some(found)
+    sound_first(t, magic, |at, _| octets::held::u16_at(t, at) == kind)
 }
