@@ -61,6 +61,7 @@ pub struct Message {
     pub body: Body,
 }
 
+// The types of messages stay numbers: a type is half an octet as it stands in the message, and is matched once where it is read.
 pub const SYNC: u8 = 0x0;
 
 pub const DELAY_REQ: u8 = 0x1;
@@ -73,7 +74,7 @@ pub const ANNOUNCE: u8 = 0xB;
 
 pub const SIGNALING: u8 = 0xC;
 
-// The fixed size of a type of message; 0 where the type is not listed.
+// The fixed size of a type of message; 0 where the type is not listed, as in the definition `fixed_size`, which theorems name.
 pub fn fixed_size(kind: u8) -> usize
     ensures { result ≡ fixed_size kind }
 {

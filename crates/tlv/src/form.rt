@@ -73,10 +73,7 @@ pub fn data_size(number: u16) -> Option<u16>
 fn wrong_size(size: Option<u16>, l: usize) -> bool
     ensures { result ≡ is_misfit size l }
 {
-    match size {
-        Some(n) => l != 8 + n as usize,
-        None => false,
-    }
+    size.is_some_and(|n| l != 8 + n as usize)
 }
 
 // The number of the TLV at `at`, whose length is `l`, if it is in White Rabbit form.
@@ -95,18 +92,12 @@ pub fn number_at(t: &[u8], at: usize, l: usize, magic: u16) -> Option<u16>
 pub fn misfits(x: Option<u16>, l: usize) -> bool
     ensures { result ≡ misfit_by x l }
 {
-    match x {
-        Some(n) => wrong_size(data_size(n), l),
-        None => false,
-    }
+    x.is_some_and(|n| wrong_size(data_size(n), l))
 }
 
 // Whether a TLV is an ANN_SUFIX.
 pub fn is_suffix(x: Option<u16>) -> bool
     ensures { result ≡ is_suffix x }
 {
-    match x {
-        Some(n) => n == ANN_SUFIX,
-        None => false,
-    }
+    x.is_some_and(|n| n == ANN_SUFIX)
 }

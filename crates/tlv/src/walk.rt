@@ -6,7 +6,8 @@ ghost use Rattle.tlv.specs.Faults.{later_of, fault_of, sound_of};
 
 use crate::form;
 
-// What a walk looks for: a TLV of a type, a suffix or a link message under a magic.
+// What a walk looks for: a TLV of a type, a suffix or a link message under a magic. It is no closure: the definition `sought_at`, which
+// theorems name, tells the tests apart by it.
 #[derive(Clone, Copy)]
 pub enum Sought {
     OfType(u16),
@@ -39,7 +40,8 @@ pub fn step(t: &[u8], at: usize) -> Option<usize>
     None
 }
 
-// The first place so far that passed a test, the end while there is none: `at` where that passes and no other came before.
+// The first place so far that passed a test, the end while there is none: `at` where that passes and no other came before. The end stands
+// for none as in the definition `first`, which theorems name.
 pub fn later(end: usize, so_far: usize, at: usize, passes: bool) -> usize
     ensures { result ≡ later_of end so_far at passes }
 {
@@ -58,6 +60,7 @@ pub fn first_fault(t: &[u8], magic: u16) -> Result<(), Fault>
 {
     let mut misfit = t.len();
     let mut at: usize = 0;
+    // A walk's loop stays: each step is read from the tail, so there is no range to go over.
     while at < t.len() {
         let Some(p) = step(t, at) else {
             return Err(Fault::Broken(at));
@@ -76,6 +79,7 @@ pub fn first_fault(t: &[u8], magic: u16) -> Result<(), Fault>
 // Where the first suffix stands in a sound tail. This is for a reader that hopes that nothing is wrong: it ends at the first
 // thing that is, and does not say what. It has one caller and is made one piece with it. That a TLV is a suffix is settled before `later` is asked: the compiler
 // then looks at the number once, for this and the size.
+// With the suffix as a closure of `contents::search::sound_first` an Announce takes three instructions more, and fifteen with a TLV before the suffix.
 pub fn sound_suffix(t: &[u8], magic: u16) -> Option<usize>
     ensures { result ≡ sound_of magic (suffix_at magic t.now) t.now }
 {

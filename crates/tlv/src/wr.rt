@@ -28,8 +28,5 @@ pub fn suffix_at(t: &[u8], p: usize) -> Option<u16>
 pub fn wr_flags(x: Option<u16>) -> u16
     ensures { result ≡ wr_flags_of x }
 {
-    let Some(flags) = x else {
-        return 0;
-    };
-    flags
+    x.unwrap_or(0)
 }

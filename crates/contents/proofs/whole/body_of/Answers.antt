@@ -1,7 +1,11 @@
 -- `whole::body_of` meets its contract: each arm knows the type, and so how many octets are there.
-use mathlib.Core.Path.{ap}
+use Prim.Native.Nat.{ℕ}
+use mathlib.Core.Bool.{false}
+use native.Mathlib.Omega.{arith}
+use lib.Dec.{eqb}
+use mathlib.Core.Path.{◌≡◌, ap}
 use borrow.Author.Tests.{ne_eqb}
-use Rattle.message.specs.Fields.{fixed_size, body_of}
+use Rattle.message.specs.Fields.{type_of, fixed_size, body_of}
 use Rattle.message.specs.declared.fields.Body.TheVariants as body
 use Rattle.contents.proofs.whole.body_of.Goals as goal
 
@@ -43,5 +47,12 @@ returns-in-11 c =
 pub returns-in_default : goal.returns-in_default
 unfolding body_of
 returns-in_default c =
-    let r = c.in_default.in_default-own.rest in
-    rw (ne_eqb _ _ r.0.0.0.0.1, ne_eqb _ _ r.0.0.0.1, ne_eqb _ _ r.0.0.1, ne_eqb _ _ r.0.1, ne_eqb _ _ r.1) (ap body.Signaling c.identity_at.ensures)
+    let n = type_of c.args.s.now in
+    let other : (k : ℕ) → (n ≡ k → ⊥) → eqb n k ≡ false = λ k h. ne_eqb n k h in
+    rw (
+      other 0x0 (λ e. omega arith),
+      other 0x1 (λ e. omega arith),
+      other 0x8 (λ e. omega arith),
+      other 0x9 (λ e. omega arith),
+      other 0xB (λ e. omega arith),
+    ) (ap body.Signaling c.identity_at.ensures)

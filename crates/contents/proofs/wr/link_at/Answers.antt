@@ -1,4 +1,9 @@
 -- `wr::link_at` meets its contract: each arm knows the number, and the readers give the values.
+use Prim.Native.Nat.{ℕ}
+use mathlib.Core.Bool.{false}
+use native.Mathlib.Omega.{arith}
+use lib.Dec.{eqb}
+use mathlib.Core.Path.{◌≡◌}
 use borrow.Author.Tests.{ne_eqb}
 use Rattle.tlv.specs.Wr.{link_message_at}
 use Rattle.tlv.specs.declared.wr.LinkMessage.TheVariants.{Calibrate, Calibrated}
@@ -34,5 +39,13 @@ returns-in-4100 c =
 pub returns-in_default : goal.returns-in_default
 unfolding link_message_at
 returns-in_default c =
-    let r = c.in_default.in_default-own.rest in
-    rw (← c.u16_at-number.ensures, ne_eqb _ _ r.0.0.0.0.1, ne_eqb _ _ r.0.0.0.1, ne_eqb _ _ r.0.0.1, ne_eqb _ _ r.0.1, ne_eqb _ _ r.1)
+    let n = c.u16_at-number.result in
+    let other : (k : ℕ) → (n ≡ k → ⊥) → eqb n k ≡ false = λ k h. ne_eqb n k h in
+    rw (
+      ← c.u16_at-number.ensures,
+      other 0x1000 (λ e. omega arith),
+      other 0x1001 (λ e. omega arith),
+      other 0x1002 (λ e. omega arith),
+      other 0x1003 (λ e. omega arith),
+      other 0x1004 (λ e. omega arith),
+    )

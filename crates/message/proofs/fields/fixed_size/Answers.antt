@@ -1,4 +1,9 @@
 -- `fields::fixed_size` meets its contract: each arm knows the type, the last that it is none of them.
+use Prim.Native.Nat.{ℕ}
+use mathlib.Core.Bool.{false}
+use native.Mathlib.Omega.{arith}
+use lib.Dec.{eqb}
+use mathlib.Core.Path.{◌≡◌}
 use borrow.Author.Tests.{ne_eqb}
 use Rattle.message.specs.Fields.{fixed_size}
 use Rattle.message.proofs.fields.fixed_size.Goals as goal
@@ -36,5 +41,13 @@ returns-in-12 c =
 pub returns-in_default : goal.returns-in_default
 unfolding fixed_size
 returns-in_default c =
-    let r = c.in_default.in_default-own.rest in
-    rw (ne_eqb _ _ r.0.0.0.0.0.1, ne_eqb _ _ r.0.0.0.0.1, ne_eqb _ _ r.0.0.0.1, ne_eqb _ _ r.0.0.1, ne_eqb _ _ r.0.1, ne_eqb _ _ r.1)
+    let n = c.args.kind in
+    let other : (k : ℕ) → (n ≡ k → ⊥) → eqb n k ≡ false = λ k h. ne_eqb n k h in
+    rw (
+      other 0x0 (λ e. omega arith),
+      other 0x1 (λ e. omega arith),
+      other 0x8 (λ e. omega arith),
+      other 0x9 (λ e. omega arith),
+      other 0xB (λ e. omega arith),
+      other 0xC (λ e. omega arith),
+    )

@@ -1,5 +1,10 @@
 -- `form::data_size` meets its contract: each arm knows the number, the last that it is none of them.
+use Prim.Native.Nat.{ℕ}
+use mathlib.Core.Path.{◌≡◌}
+use mathlib.Core.Bool.{false}
+use native.Mathlib.Omega.{arith}
 use borrow.Author.Tests.{ne_eqb}
+use lib.Dec.{eqb}
 use Rattle.tlv.specs.Form.{data_octets}
 use Rattle.tlv.proofs.form.data_size.Goals as goal
 
@@ -41,5 +46,14 @@ returns-in-8192 c =
 pub returns-in_default : goal.returns-in_default
 unfolding data_octets
 returns-in_default c =
-    let r = c.in_default.in_default-own.rest in
-    rw (ne_eqb _ _ r.0.0.0.0.0.0.1, ne_eqb _ _ r.0.0.0.0.0.1, ne_eqb _ _ r.0.0.0.0.1, ne_eqb _ _ r.0.0.0.1, ne_eqb _ _ r.0.0.1, ne_eqb _ _ r.0.1, ne_eqb _ _ r.1)
+    let n = c.args.number in
+    let other : (k : ℕ) → (n ≡ k → ⊥) → eqb n k ≡ false = λ k h. ne_eqb n k h in
+    rw (
+      other 0x1000 (λ e. omega arith),
+      other 0x1001 (λ e. omega arith),
+      other 0x1002 (λ e. omega arith),
+      other 0x1003 (λ e. omega arith),
+      other 0x1004 (λ e. omega arith),
+      other 0x1005 (λ e. omega arith),
+      other 0x2000 (λ e. omega arith),
+    )
