@@ -12,15 +12,15 @@ use Rattle.refusal.specs.Refusal.{code_of}
 use Rattle.rank.specs.declared.Candidate.{Candidate}
 use Rattle.rank.specs.declared.Ranked.{Ranked}
 use Rattle.rank.specs.Ranked.{all_valid, is_ranked}
-use Rattle.rank.specs.Calls.{ranking_of, merge_of}
+use Rattle.rank.specs.Calls.{ranking_of, merge_of, outcome_of}
 use Rattle.rank.specs.When.{RankWhen, many, no_port, ranked, MergeWhen, unranked, merged}
 
 -- the number that ranking and merging answer with
 abbrev pub rank_code : List Candidate → ℕ
-rank_code s = code_of (ranking_of s).outcome
+rank_code s = code_of (outcome_of (ranking_of s))
 
 abbrev pub merge_code : Ranked → Ranked → ℕ
-merge_code a b = code_of (merge_of a b).outcome
+merge_code a b = code_of (outcome_of (merge_of a b))
 
 -- A LINE THAT HOLDS: its number is given
 pub when_rank : (s : List Candidate) {n : ℕ} → RankWhen s n → rank_code s ≡ n

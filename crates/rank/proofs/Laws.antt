@@ -1,5 +1,6 @@
 -- Demand 3 and what follows from it, in the words of the calls: `ranking_of` is what ranking a run answers, `merge_of` what
 -- merging two lists answers.
+use Rattle.std.specs.Prelude.{Result}
 use Prim.Native.Nat.{◌≤◌}
 use mathlib.Core.Path.{◌≡◌, refl, sym, ap, ap₂, ◌∙◌}
 use mathlib.Core.List.{List, [], ◌∷◌, ◌++◌, append-nil, append_assoc, Memᴰ}
@@ -9,13 +10,13 @@ use borrow.Author.Tests.{le-ltb}
 use lib.Dec.{ltb}
 use lib.ListN.{length, take, length-append}
 use Rattle.refusal.specs.Choice.{refuse}
+use Rattle.refusal.specs.declared.Refusal.{Refusal}
 use Rattle.rank.specs.declared.Candidate.{Candidate}
 use Rattle.rank.specs.declared.Ranked.{Ranked}
-use Rattle.rank.specs.declared.Ranking.{Ranking}
 use Rattle.rank.specs.Order.{earlier_of}
 use Rattle.rank.specs.Best.{sort}
 use Rattle.rank.specs.Ranked.{is_port, receiver_of, all_valid, rank_of, pack, unpack, is_ranked}
-use Rattle.rank.specs.Calls.{done_of, ranking_of, merge_of}
+use Rattle.rank.specs.Calls.{done_of, ranking_of, merge_of, list_of}
 use Rattle.rank.proofs.Best.{cases, bests_same, rank_merge, rank_swap, rank_twice}
 use Rattle.rank.proofs.Order.{ordered}
 use Rattle.rank.proofs.Merging.{R, AllValid, defined, unpack_pack, both, valid_sound, ranked_valid, ranked_self, ranked_passes, valid_rank, all_append}
@@ -56,7 +57,7 @@ unfolding refuse
 ranked s v few = rw (le-ltb 288 (length s) few, v)
 
 -- EVERY LIST THAT RANKING GIVES IS A RANKED LIST, the empty one beside a refusal too
-pub ranking_passes : (s : List Candidate) → is_ranked (ranking_of s).list ≡ true
+pub ranking_passes : (s : List Candidate) → is_ranked (list_of (ranking_of s)) ≡ true
 unfolding refuse
 ranking_passes s =
     cases (ltb 288 (length s))
@@ -94,7 +95,7 @@ module _ (s t : List Candidate) (vs : AllValid s) (vt : AllValid t) where
 -- DEMAND 3: for any two collections of valid candidates, together at most 288, merging their ranked lists gives exactly
 -- the ranked list of both together
 pub demand_3 : (s t : List Candidate) → all_valid s ≡ true → all_valid t ≡ true → length (s ++ t) ≤ 288
-    → merge_of (ranking_of s).list (ranking_of t).list ≡ ranking_of (s ++ t)
+    → merge_of (list_of (ranking_of s)) (list_of (ranking_of t)) ≡ ranking_of (s ++ t)
 demand_3 s t vs vt few =
     let n = length-append s t in
     rw (ranked s vs (omega arith), ranked t vt (omega arith), ranked (s ++ t) (valid_append s t vs vt) few)
@@ -133,7 +134,7 @@ module _ (a b c : Ranked) (ha : is_ranked a ≡ true) (hb : is_ranked b ≡ true
   vc : AllValid (unpack c)
   vc = ranked_valid c hc
 
-  left : merge_of (merge_of a b).list c ≡ done_of (rank_of ((unpack a ++ unpack b) ++ unpack c))
+  left : merge_of (list_of (merge_of a b)) c ≡ done_of (rank_of ((unpack a ++ unpack b) ++ unpack c))
   left =
       let vab = all_append _ (unpack a) (unpack b) va vb in
       rw (merges a b ha hb)
@@ -142,7 +143,7 @@ module _ (a b c : Ranked) (ha : is_ranked a ≡ true) (hb : is_ranked b ≡ true
       (ap₂ (λ (x y : List Candidate). rank_of (x ++ y)) (unpack_pack (rank_of (unpack a ++ unpack b))) (sym (ranked_self c hc))
       ∙ rank_of_ranks (unpack a ++ unpack b) (unpack c) vab vc))
 
-  right : merge_of a (merge_of b c).list ≡ done_of (rank_of (unpack a ++ (unpack b ++ unpack c)))
+  right : merge_of a (list_of (merge_of b c)) ≡ done_of (rank_of (unpack a ++ (unpack b ++ unpack c)))
   right =
       let vbc = all_append _ (unpack b) (unpack c) vb vc in
       rw (merges b c hb hc)
@@ -151,7 +152,7 @@ module _ (a b c : Ranked) (ha : is_ranked a ≡ true) (hb : is_ranked b ≡ true
       (ap₂ (λ (x y : List Candidate). rank_of (x ++ y)) (sym (ranked_self a ha)) (unpack_pack (rank_of (unpack b ++ unpack c)))
       ∙ rank_of_ranks (unpack a) (unpack b ++ unpack c) va vbc))
 
-  pub merge_grouping : merge_of (merge_of a b).list c ≡ merge_of a (merge_of b c).list
+  pub merge_grouping : merge_of (list_of (merge_of a b)) c ≡ merge_of a (list_of (merge_of b c))
   merge_grouping = left ∙ ap (λ (l : List Candidate). done_of (rank_of l)) (append_assoc (unpack a) (unpack b) (unpack c)) ∙ sym right
 
 -- CARDS IN A TREE: each ranks what it heard, and lists merge upward
@@ -163,9 +164,9 @@ abbrev pub heard : Cards → List Candidate
 heard (card s) = s
 heard (join l r) = heard l ++ heard r
 
-abbrev pub gathered : Cards → Ranking
+abbrev pub gathered : Cards → Result Ranked Refusal
 gathered (card s) = ranking_of s
-gathered (join l r) = merge_of (gathered l).list (gathered r).list
+gathered (join l r) = merge_of (list_of (gathered l)) (list_of (gathered r))
 
 valid_left : (s t : List Candidate) → all_valid (s ++ t) ≡ true → all_valid s ≡ true
 valid_left [] t h = refl

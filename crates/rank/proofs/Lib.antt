@@ -1,4 +1,5 @@
 pub mod Best
+pub mod Comparing
 pub mod Order
 pub mod Sinking
 pub mod Tidying

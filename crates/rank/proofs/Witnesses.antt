@@ -1,4 +1,5 @@
 -- Worked inputs, computed: 01's own, and one for each wrong program that no edit of the same shape can show.
+use Rattle.std.specs.Prelude.{Result, Err}
 use Prim.Native.Nat.{ℕ, zero, suc}
 use mathlib.Core.Path.{◌≡◌, refl, sym, ap, ◌∙◌}
 use mathlib.Core.List.{List, [], ◌∷◌, map}
@@ -8,13 +9,13 @@ use contract.Lifetimes.{Lfts}
 use borrow.Fn.Kinds.{ended_of}
 use denote.Triple.Clauses.{AtExit}
 use Rattle.refusal.specs.Choice.{refuse}
+use Rattle.refusal.specs.declared.Refusal.{Refusal}
 use Rattle.refusal.specs.declared.Refusal.TheVariants.{Many, Port, Unranked}
 use Rattle.rank.specs.declared.Candidate.{Candidate}
 use Rattle.rank.specs.declared.Ranked.{Ranked}
-use Rattle.rank.specs.declared.Ranking.{Ranking}
 use Rattle.rank.specs.Order.{keys_of, earlier_of}
 use Rattle.rank.specs.Ranked.{rank_of, receiver_of, pack, is_ranked}
-use Rattle.rank.specs.Calls.{refused_of, done_of, ranking_of, merge_of}
+use Rattle.rank.specs.Calls.{done_of, ranking_of, merge_of, list_of}
 use Rattle.rank.proofs.merge.Reads as merge
 use Rattle.rank.proofs.merge.Kinds as merge-kinds
 
@@ -68,12 +69,12 @@ pub run_288 : ranking_of (times 288) ≡ done_of (cand 1 1 0 1 1 ∷ [])
 unfolding refuse
 run_288 = refl
 
-pub run_289 : ranking_of (cand 1 1 0 1 0 ∷ times 288) ≡ refused_of Many
+pub run_289 : ranking_of (cand 1 1 0 1 0 ∷ times 288) ≡ Err Many
 unfolding refuse
 run_289 = refl
 
 -- a port outside 1 to 18, though better ones would push it out
-pub port_19 : ranking_of (cand 1 1 0 1 1 ∷ cand 9 1 0 1 19 ∷ []) ≡ refused_of Port
+pub port_19 : ranking_of (cand 1 1 0 1 1 ∷ cand 9 1 0 1 19 ∷ []) ≡ Err Port
 unfolding refuse
 port_19 = refl
 
@@ -87,7 +88,7 @@ port_twice = refl
 pub port_0 : is_ranked (pack (cand 1 1 0 1 0 ∷ [])) ≡ false
 port_0 = refl
 
-pub unranked : merge_of (pack (cand 2 1 0 1 1 ∷ cand 1 1 0 1 2 ∷ [])) (pack []) ≡ refused_of Unranked
+pub unranked : merge_of (pack (cand 2 1 0 1 1 ∷ cand 1 1 0 1 2 ∷ [])) (pack []) ≡ Err Unranked
 unfolding refuse
 unranked = refl
 
@@ -95,16 +96,16 @@ unranked = refl
 abbrev one : ℕ → Ranked
 one p = pack (cand p 1 0 1 p ∷ [])
 
-module _ (κs : Lfts 0) (r : Ranking) (e f : AtExit (ended_of 0 merge-kinds.ps merge-kinds.r) κs) where
+module _ (κs : Lfts 0) (r : Result Ranked Refusal) (e f : AtExit (ended_of 0 merge-kinds.ps merge-kinds.r) κs) where
   -- handing back the first list, whatever the second
-  pub not_the_first : merge.Post κs (one 1, (one 2, tt)) r e → r.list ≡ one 1 → ⊥
+  pub not_the_first : merge.Post κs (one 1, (one 2, tt)) r e → list_of r ≡ one 1 → ⊥
   unfolding refuse
   not_the_first p q =
-      let z : ◌≡◌ {A = ℕ} 2 1 = ap (λ (m : Ranking). m.list.len) (sym p) ∙ ap (λ (l : Ranked). l.len) q in
+      let z : ◌≡◌ {A = ℕ} 2 1 = ap (λ (m : Result Ranked Refusal). (list_of m).len) (sym p) ∙ ap (λ (l : Ranked). l.len) q in
       omega arith
 
   pub not_constant : merge.Post κs (one 1, (one 2, tt)) r e → merge.Post κs (one 1, (one 1, tt)) r f → ⊥
   unfolding refuse
   not_constant p q =
-      let z : ◌≡◌ {A = ℕ} 2 1 = ap (λ (m : Ranking). m.list.len) (sym p ∙ q) in
+      let z : ◌≡◌ {A = ℕ} 2 1 = ap (λ (m : Result Ranked Refusal). (list_of m).len) (sym p ∙ q) in
       omega arith

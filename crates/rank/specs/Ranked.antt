@@ -1,7 +1,8 @@
 -- The ranked list of a collection of candidates, and a ranked list as the engine keeps it: a length and four slots
 -- (01, "Comparing and ranking").
-use Rattle.std.specs.Prelude.{ℕ, List, [], ◌∷◌, ◌++◌, Bool, true, false, not, ◌&&◌, ◌||◌, eqb, leb, length, take, drop, get_or}
+use Rattle.std.specs.Prelude.{ℕ, List, [], ◌∷◌, ◌++◌, Bool, true, not, ◌&&◌, eqb, leb, length, take, drop, get_or}
 pub use Rattle.refusal.specs.Limits.{is_port}
+use Rattle.std.specs.List.{list_any}
 use Rattle.refusal.specs.Limits.{port_count}
 use Rattle.refusal.specs.Choice.{pick}
 use Rattle.rank.specs.declared.Candidate.{Candidate}
@@ -47,8 +48,7 @@ unpack r = take r.len r.slots
 
 -- a candidate of port p is in the list
 abbrev pub holds_of : ℕ → List Candidate → Bool
-holds_of p [] = false
-holds_of p (x ∷ xs) = eqb x.port p || holds_of p xs
+holds_of p l = list_any (λ x. eqb x.port p) l
 
 -- what stands after x, if anything, comes later in rank order
 abbrev pub leads_of : Candidate → List Candidate → Bool

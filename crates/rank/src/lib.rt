@@ -4,12 +4,12 @@
 // Ranked lists merge, in any order and any grouping, to the ranked list of everything that was heard.
 //
 // Ranking a run refuses 17 (more than 288 candidates), then 8 (a port outside 1 to 18); merging refuses 15
-// (a list that is not a ranked list). Where either refuses, the list that comes with the refusal is empty.
+// (a list that is not a ranked list).
 // Which candidates a port has is left to the sender records, and what a port does about them to the decision.
-ghost use Rattle.std.specs.Prelude.{◌≡◌, [], min};
-ghost use Rattle.rank.specs.Order.{identity_of, grade_of, lex, same, earlier_of};
+ghost use Rattle.std.specs.Prelude.{◌≡◌, []};
+ghost use Rattle.rank.specs.Order.{identity_of, grade_of, lex, earlier_of};
 ghost use Rattle.rank.specs.Ranked.{blank_of, pack, unpack, left_out, sink_of, insert_of, insert_all, holds_of, is_ranked};
-ghost use Rattle.rank.specs.Calls.{refused_of, merge_of, start_of, turns_of, step_of, ranking_of};
+ghost use Rattle.rank.specs.Calls.{merge_of, ranking_of};
 
 use identity::PortIdentity;
 use refusal::Refusal;
@@ -20,8 +20,8 @@ const PLACES: usize = 4;
 // A run holds at most so many candidates.
 const MOST: usize = 288;
 
-// A grandmaster as it announces itself: its quality, and its clockIdentity.
-#[derive(Clone, Copy)]
+// A grandmaster as it announces itself: its quality, and its clockIdentity. The fields stand in the order in which rank order looks at them.
+#[derive(Clone, Copy, Debug, PartialEq, Eq, PartialOrd, Ord)]
 pub struct Grandmaster {
     pub priority1: u8,
     pub class: u8,
@@ -31,8 +31,8 @@ pub struct Grandmaster {
     pub identity: u64,
 }
 
-// What a card knows of one master: the ten keys of rank order, and nothing else.
-#[derive(Clone, Copy)]
+// What a card knows of one master: the ten keys of rank order, in that order, and nothing else.
+#[derive(Clone, Copy, Debug, PartialEq, Eq, PartialOrd, Ord)]
 pub struct Candidate {
     pub grandmaster: Grandmaster,
     pub steps: u16,
@@ -41,78 +41,41 @@ pub struct Candidate {
     pub wrflags: u16,
 }
 
-// Whether `a` comes before `b` as ten octets, clock then port.
-pub fn precedes(a: PortIdentity, b: PortIdentity) -> bool
-    ensures { result ≡ lex (identity_of a) (identity_of b) }
+// Whether `i` comes before `j` as ten octets, clock then port.
+pub fn precedes(i: PortIdentity, j: PortIdentity) -> bool
+    ensures { result ≡ lex (identity_of i) (identity_of j) }
 {
-    if a.clock != b.clock {
-        return a.clock < b.clock;
-    }
-    a.port < b.port
+    i < j
 }
 
-// Whether grandmaster `a` comes before `b`: at the first of its six keys that differs, the lower.
-pub fn outranks(a: Grandmaster, b: Grandmaster) -> bool
-    ensures { result ≡ lex (grade_of a) (grade_of b) }
+// Whether grandmaster `g` comes before `h`: at the first of its six keys that differs, the lower.
+pub fn outranks(g: Grandmaster, h: Grandmaster) -> bool
+    ensures { result ≡ lex (grade_of g) (grade_of h) }
 {
-    if a.priority1 != b.priority1 {
-        return a.priority1 < b.priority1;
-    }
-    if a.class != b.class {
-        return a.class < b.class;
-    }
-    if a.accuracy != b.accuracy {
-        return a.accuracy < b.accuracy;
-    }
-    if a.variance != b.variance {
-        return a.variance < b.variance;
-    }
-    if a.priority2 != b.priority2 {
-        return a.priority2 < b.priority2;
-    }
-    a.identity < b.identity
-}
-
-// Whether two grandmasters have the same six keys.
-fn alike(a: Grandmaster, b: Grandmaster) -> bool
-    ensures { result ≡ same (grade_of a) (grade_of b) }
-{
-    (a.priority1 == b.priority1)
-        & (a.class == b.class)
-        & (a.accuracy == b.accuracy)
-        & (a.variance == b.variance)
-        & (a.priority2 == b.priority2)
-        & (a.identity == b.identity)
+    g < h
 }
 
 // Whether `a` stands before `b` in rank order.
 pub fn earlier(a: Candidate, b: Candidate) -> bool
     ensures { result ≡ earlier_of a b }
 {
-    let g = a.grandmaster;
-    let h = b.grandmaster;
-    if !alike(g, h) {
-        return outranks(g, h);
-    }
-    if a.steps != b.steps {
-        return a.steps < b.steps;
-    }
-    let s = a.sender;
-    let t = b.sender;
-    if (s.clock != t.clock) | (s.port != t.port) {
-        return precedes(s, t);
-    }
-    if a.port != b.port {
-        return a.port < b.port;
-    }
-    a.wrflags < b.wrflags
+    a < b
 }
 
-// A ranked list: the first `len` of the slots. The slots past them say nothing.
+// A ranked list: the first `len` of the slots, or all of them where it says more. The slots past them say nothing.
 #[derive(Clone, Copy)]
 pub struct Ranked {
     pub len: usize,
     pub slots: [Candidate; PLACES],
+}
+
+impl Ranked {
+    // The slots that are used.
+    fn used(&self) -> &[Candidate]
+        ensures { result.now ≡ unpack self.now }
+    {
+        &self.slots[..self.len.min(PLACES)]
+    }
 }
 
 // What an unused slot holds.
@@ -139,29 +102,17 @@ fn blank() -> Candidate
 pub fn empty() -> Ranked
     ensures { result ≡ pack [] }
 {
-    let b = blank();
     Ranked {
         len: 0,
-        slots: [b; PLACES],
+        slots: [blank(); PLACES],
     }
-}
-
-// How many slots a length says are used: all of them where it says more.
-fn used(len: usize) -> usize
-    ensures { result ≡ min len 4 }
-{
-    if len < PLACES { len } else { PLACES }
 }
 
 // Whether a list is full and a candidate does not stand before its last: then there is no place for it.
 fn left_out(r: Ranked, c: Candidate) -> bool
     ensures { result ≡ left_out r c }
 {
-    if r.len != PLACES {
-        return false;
-    }
-    let y = r.slots[3];
-    !earlier(c, y)
+    r.len == PLACES && !earlier(c, r.slots[3])
 }
 
 // A candidate goes down the list, and whichever of two stands later goes on, until one is left out: at an entry of the
@@ -170,11 +121,10 @@ fn sink(r: Ranked, c: Candidate) -> Ranked
     ensures { result ≡ sink_of r c }
 {
     let p = c.port;
-    let n = used(r.len);
+    let n = r.len.min(PLACES);
     let mut slots = r.slots;
     let mut x = c;
-    let mut i: usize = 0;
-    while i < n {
+    for i in 0..n {
         let y = slots[i];
         if earlier(x, y) {
             slots[i] = x;
@@ -183,7 +133,6 @@ fn sink(r: Ranked, c: Candidate) -> Ranked
         if y.port == p {
             return Ranked { len: n, slots };
         }
-        i += 1;
     }
     if n < PLACES {
         slots[n] = x;
@@ -206,14 +155,9 @@ fn insert(r: Ranked, c: Candidate) -> Ranked
 fn tidy(r: Ranked) -> Ranked
     ensures { result ≡ pack (unpack r) }
 {
-    let n = used(r.len);
-    let b = blank();
+    let n = r.len.min(PLACES);
     let mut slots = r.slots;
-    let mut i = n;
-    while i < PLACES {
-        slots[i] = b;
-        i += 1;
-    }
+    slots[n..].fill(blank());
     Ranked { len: n, slots }
 }
 
@@ -221,31 +165,25 @@ fn tidy(r: Ranked) -> Ranked
 fn insert_all(to: Ranked, from: Ranked) -> Ranked
     ensures { result ≡ insert_all to (unpack from) }
 {
-    let n = used(from.len);
     let mut r = to;
-    let mut i: usize = 0;
-    while i < n {
-        let y = from.slots[i];
-        r = insert(r, y);
-        i += 1;
+    for c in from.used() {
+        r = insert(r, *c);
     }
     r
+}
+
+// Whether one of some candidates is of port `p`.
+fn any_of(list: &[Candidate], p: u8) -> bool
+    ensures { result ≡ holds_of p list.now }
+{
+    list.iter().any(|c| c.port == p)
 }
 
 // Whether a candidate of port `p` is in the list.
 pub fn holds(r: Ranked, p: u8) -> bool
     ensures { result ≡ holds_of p (unpack r) }
 {
-    let n = used(r.len);
-    let mut i: usize = 0;
-    while i < n {
-        let x = r.slots[i];
-        if x.port == p {
-            return true;
-        }
-        i += 1;
-    }
-    false
+    any_of(r.used(), p)
 }
 
 // Whether a list is a ranked list: at most four, of different ports from 1 to 18, rising strictly in rank order. Each slot's
@@ -253,121 +191,50 @@ pub fn holds(r: Ranked, p: u8) -> bool
 pub fn is_ranked(r: Ranked) -> bool
     ensures { result ≡ is_ranked r }
 {
-    let n = r.len;
-    if PLACES < n {
+    if PLACES < r.len {
         return false;
     }
-    let mut i: usize = 0;
-    while i < n {
-        let x = r.slots[i];
-        let p = x.port;
-        if !refusal::is_port(p) {
+    let mut rest = r.used();
+    while let [x, later @ ..] = rest {
+        if !refusal::is_port(x.port) {
             return false;
         }
-        let mut j = i + 1;
-        while j < n {
-            let z = r.slots[j];
-            if z.port == p {
-                return false;
-            }
-            j += 1;
+        if any_of(later, x.port) {
+            return false;
         }
-        if i + 1 < n {
-            let y = r.slots[i + 1];
-            if !earlier(x, y) {
+        if let [y, ..] = later {
+            if !earlier(*x, *y) {
                 return false;
             }
         }
-        i += 1;
+        rest = later;
     }
     true
 }
 
-// What ranking and merging answer: done and the list, or the refusal and an empty list.
-#[derive(Clone, Copy)]
-pub struct Ranking {
-    pub outcome: Result<(), Refusal>,
-    pub list: Ranked,
-}
-
-// A refusal, with the empty list.
-fn refused(x: Refusal) -> Ranking
-    ensures { result ≡ refused_of x }
-{
-    Ranking {
-        outcome: Err(x),
-        list: empty(),
-    }
-}
-
 // The ranked list of all that two ranked lists were ranked of.
-pub fn merge(a: Ranked, b: Ranked) -> Ranking
+pub fn merge(a: Ranked, b: Ranked) -> Result<Ranked, Refusal>
     ensures { result ≡ merge_of a b }
 {
     if !(is_ranked(a) & is_ranked(b)) {
-        return refused(Refusal::Unranked);
+        return Err(Refusal::Unranked);
     }
-    let list = insert_all(tidy(a), b);
-    Ranking {
-        outcome: Ok(()),
-        list,
-    }
-}
-
-// Where the ranking of a run of `n` candidates starts.
-fn start(n: usize) -> Ranking
-    ensures { result ≡ start_of n }
-{
-    if MOST < n {
-        return refused(Refusal::Many);
-    }
-    Ranking {
-        outcome: Ok(()),
-        list: empty(),
-    }
-}
-
-// One candidate of a run more: what is refused stays refused. A list that leaves the candidate out is not copied.
-fn step(s: Ranking, c: Candidate) -> Ranking
-    ensures { result ≡ step_of s c }
-{
-    let outcome = s.outcome;
-    let Ok(()) = outcome else {
-        return s;
-    };
-    let p = c.port;
-    if !refusal::is_port(p) {
-        return refused(Refusal::Port);
-    }
-    let list = s.list;
-    if left_out(list, c) {
-        return s;
-    }
-    let before = s.list;
-    Ranking {
-        outcome,
-        list: sink(before, c),
-    }
-}
-
-// How many candidates of a run of `n` are looked at: all, or none where they are too many.
-fn turns(n: usize) -> usize
-    ensures { result ≡ turns_of n }
-{
-    if MOST < n { 0 } else { n }
+    Ok(insert_all(tidy(a), b))
 }
 
 // The ranked list of a run of candidates, which come in any order and may be repeated.
-pub fn rank(run: &[Candidate]) -> Ranking
+pub fn rank(run: &[Candidate]) -> Result<Ranked, Refusal>
     ensures { result ≡ ranking_of run.now }
 {
-    let n = run.len();
-    let m = turns(n);
-    let mut s = start(n);
-    let mut i: usize = 0;
-    while i < m {
-        s = step(s, run[i]);
-        i += 1;
+    if MOST < run.len() {
+        return Err(Refusal::Many);
     }
-    s
+    let mut list = empty();
+    for c in run {
+        if !refusal::is_port(c.port) {
+            return Err(Refusal::Port);
+        }
+        list = insert(list, *c);
+    }
+    Ok(list)
 }

@@ -9,9 +9,7 @@ use Rattle.rank.proofs.merge.Goals as goal
 
 pub returns-then-not-is_ranked : goal.returns-then-not-is_ranked
 unfolding refuse
-returns-then-not-is_ranked c =
-    let told = ap₂ ◌&&◌ (sym c.is_ranked.ensures) (sym c.is_ranked-2.ensures) in
-    rw (c.refused.ensures, told ∙ c.if-not-is_ranked.true)
+returns-then-not-is_ranked c = rw (ap₂ ◌&&◌ (sym c.is_ranked.ensures) (sym c.is_ranked-2.ensures) ∙ c.if-not-is_ranked.true)
 
 pub returns : goal.returns
 unfolding refuse
@@ -21,4 +19,4 @@ returns c =
     let told = ap₂ ◌&&◌ (sym c.is_ranked.ensures) (sym c.is_ranked-2.ensures) in
     let h = told ∙ c.if-not-is_ranked.false in
     let p = both (is_ranked a) (is_ranked b) h in
-    rw (c.insert_all-list.ensures, c.tidy.ensures, merged a b p.0 p.1, h)
+    rw (c.insert_all.ensures, c.tidy.ensures, merged a b p.0 p.1, h)

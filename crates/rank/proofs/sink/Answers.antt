@@ -37,9 +37,9 @@ turned c =
 pub returns-then-y-p : goal.returns-then-y-p
 returns-then-y-p c =
     let t = turned (goal.at.returns-then-y-p c).Joined-earlier in
-    ap (λ (s : List Candidate). record { len = c.used-n.result; slots = s }) t.0
+    ap (λ (s : List Candidate). record { len = c.min-n.result; slots = s }) t.0
     ∙ down_spent _ _ _ _ _ _ _ c.loop-i.invariant blank_of c.loop-i-test.true (eq-eqb _ _ c.if-y-p.true)
-    ∙ to_spec _ _ _ c.well_formed.0.1.1.1.0.1.0.1 c.used-n.ensures
+    ∙ to_spec _ _ _ c.well_formed.0.1.1.1.0.1.0.1 c.min-n.ensures
 
 pub loop-i-preserved : goal.loop-i-preserved
 loop-i-preserved c =
@@ -50,4 +50,4 @@ loop-i-preserved c =
 pub returns-then-n-lt-PLACES : goal.returns-then-n-lt-PLACES
 returns-then-n-lt-PLACES c =
     down_grown _ _ _ _ _ _ _ c.loop-i.invariant c.loop-i-test.false c.if-n-lt-PLACES.true
-    ∙ to_spec _ _ _ c.well_formed.0.1.1.1.0.1.0.1 c.used-n.ensures
+    ∙ to_spec _ _ _ c.well_formed.0.1.1.1.0.1.0.1 c.min-n.ensures

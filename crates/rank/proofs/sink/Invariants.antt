@@ -1,6 +1,5 @@
 -- `sink` meets its contract: the slots gone through, then what comes of sinking the one that goes on into the others,
 -- is what comes of sinking the candidate into the list.
-use Prim.Native.Nat.{◌-◌}
 use lib.ListN.{take}
 use Rattle.rank.specs.Order.{earlier_of}
 use Rattle.rank.specs.Best.{sink}
@@ -10,6 +9,3 @@ use Rattle.rank.proofs.sink.Given as goal
 
 abbrev pub invariant-loop-i : goal.invariant-loop-i
 invariant-loop-i l = Down l.p l.n (sink earlier_of receiver_of l.p l.initial.x (take l.n l.initial.slots)) l.initial.slots l.slots l.x l.i
-
-abbrev pub decreases-loop-i : goal.decreases-loop-i
-decreases-loop-i l = l.n - l.i
