@@ -14,10 +14,11 @@ ghost use Rattle.decide.specs.Leading.{lead_of, by_class_of, by_ebest_of, led_of
 use identity::PortIdentity;
 use rank::{Candidate, Grandmaster, Ranked};
 use refusal::Refusal;
+use std::cmp::Ordering;
 
 // What the comparison looks at: the grandmaster that a set leads to, in how many steps, who sent the set, and on which
 // port it was received.
-#[derive(Clone, Copy)]
+#[derive(Clone, Copy, Debug, PartialEq, Eq)]
 pub struct DataSet {
     pub grandmaster: Grandmaster,
     pub steps: u16,
@@ -26,7 +27,7 @@ pub struct DataSet {
 }
 
 // The six answers of the comparison of a set A with a set B.
-#[derive(Clone, Copy)]
+#[derive(Clone, Copy, Debug, PartialEq, Eq)]
 pub enum Comparison {
     ABetter,
     BBetter,
@@ -36,17 +37,32 @@ pub enum Comparison {
     Error2,
 }
 
-// The same answer, with A and B changing places.
-fn mirror(x: Comparison) -> Comparison
-    ensures { result ≡ mirror_of x }
-{
-    match x {
-        Comparison::ABetter => Comparison::BBetter,
-        Comparison::BBetter => Comparison::ABetter,
-        Comparison::ABetterByTopology => Comparison::BBetterByTopology,
-        Comparison::BBetterByTopology => Comparison::ABetterByTopology,
-        Comparison::Error1 => Comparison::Error1,
-        Comparison::Error2 => Comparison::Error2,
+impl Comparison {
+    // The same answer, with A and B changing places.
+    fn mirror(self) -> Comparison
+        ensures { result ≡ mirror_of self }
+    {
+        match self {
+            Comparison::ABetter => Comparison::BBetter,
+            Comparison::BBetter => Comparison::ABetter,
+            Comparison::ABetterByTopology => Comparison::BBetterByTopology,
+            Comparison::BBetterByTopology => Comparison::ABetterByTopology,
+            error => error,
+        }
+    }
+
+    // Whether A beats B: it is better, or better by topology. An error beats nothing.
+    fn beats(self) -> bool
+        ensures { result ≡ beats_of self }
+    {
+        matches!(self, Comparison::ABetter | Comparison::ABetterByTopology)
+    }
+
+    // Whether A is better by topology.
+    fn by_topology(self) -> bool
+        ensures { result ≡ by_topology self }
+    {
+        matches!(self, Comparison::ABetterByTopology)
     }
 }
 
@@ -59,38 +75,22 @@ fn fewer(a: DataSet, b: DataSet) -> Comparison
     if 2 <= b.steps - a.steps {
         return Comparison::ABetter;
     }
-    let r = b.receiver;
-    let s = b.sender;
-    if rank::precedes(r, s) {
-        return Comparison::ABetter;
+    match b.receiver.cmp(&b.sender) {
+        Ordering::Less => Comparison::ABetter,
+        Ordering::Greater => Comparison::ABetterByTopology,
+        Ordering::Equal => Comparison::Error1,
     }
-    if rank::precedes(s, r) {
-        return Comparison::ABetterByTopology;
-    }
-    Comparison::Error1
 }
 
 // One grandmaster in as many steps: the lower sender, then the lower receiver port number.
 fn even(a: DataSet, b: DataSet) -> Comparison
     ensures { result ≡ even_of a b }
 {
-    let s = a.sender;
-    let t = b.sender;
-    if rank::precedes(s, t) {
-        return Comparison::ABetterByTopology;
+    match (a.sender, a.receiver.port).cmp(&(b.sender, b.receiver.port)) {
+        Ordering::Less => Comparison::ABetterByTopology,
+        Ordering::Greater => Comparison::BBetterByTopology,
+        Ordering::Equal => Comparison::Error2,
     }
-    if rank::precedes(t, s) {
-        return Comparison::BBetterByTopology;
-    }
-    let q = a.receiver;
-    let r = b.receiver;
-    if q.port < r.port {
-        return Comparison::ABetterByTopology;
-    }
-    if r.port < q.port {
-        return Comparison::BBetterByTopology;
-    }
-    Comparison::Error2
 }
 
 // The comparison of two data sets.
@@ -105,13 +105,11 @@ pub fn compare(a: DataSet, b: DataSet) -> Comparison
         }
         return Comparison::BBetter;
     }
-    if a.steps < b.steps {
-        return fewer(a, b);
+    match a.steps.cmp(&b.steps) {
+        Ordering::Less => fewer(a, b),
+        Ordering::Greater => fewer(b, a).mirror(),
+        Ordering::Equal => even(a, b),
     }
-    if b.steps < a.steps {
-        return mirror(fewer(b, a));
-    }
-    even(a, b)
 }
 
 // Our own set: our clock is its grandmaster, in no steps, and with port 0 its sender and receiver.
@@ -131,12 +129,10 @@ pub fn own_set(own: Grandmaster) -> DataSet
 fn set_of(c: Candidate, clock: u64, port: u8) -> DataSet
     ensures { result ≡ set_of c clock port }
 {
-    let grandmaster = c.grandmaster;
-    let sender = c.sender;
     DataSet {
-        grandmaster,
+        grandmaster: c.grandmaster,
         steps: c.steps,
-        sender,
+        sender: c.sender,
         receiver: PortIdentity {
             clock,
             port: port as u16,
@@ -144,63 +140,31 @@ fn set_of(c: Candidate, clock: u64, port: u8) -> DataSet
     }
 }
 
-// Whether A beats B: it is better, or better by topology. An error beats nothing.
-fn beats(x: Comparison) -> bool
-    ensures { result ≡ beats_of x }
-{
-    match x {
-        Comparison::ABetter => true,
-        Comparison::BBetter => false,
-        Comparison::ABetterByTopology => true,
-        Comparison::BBetterByTopology => false,
-        Comparison::Error1 => false,
-        Comparison::Error2 => false,
-    }
-}
-
-// Whether A is better by topology.
-fn by_topology(x: Comparison) -> bool
-    ensures { result ≡ by_topology x }
-{
-    match x {
-        Comparison::ABetter => false,
-        Comparison::BBetter => false,
-        Comparison::ABetterByTopology => true,
-        Comparison::BBetterByTopology => false,
-        Comparison::Error1 => false,
-        Comparison::Error2 => false,
-    }
-}
-
 // Whether our own set beats a candidate on port `port`.
+#[tactic(auto, unfolding(crate::specs::Deciding::own_beats))]
 fn own_beats(own: Grandmaster, c: Candidate, port: u8) -> bool
     ensures { result ≡ own_beats own c port }
 {
-    beats(compare(own_set(own), set_of(c, own.identity, port)))
+    compare(own_set(own), set_of(c, own.identity, port)).beats()
 }
 
 // Whether our own set beats the best of port `port`; anything beats an absent one.
 fn beats_erbest(own: Grandmaster, port: u8, best: Option<Candidate>) -> bool
     ensures { result ≡ beats_erbest own port best }
 {
-    match best {
-        None => true,
-        Some(c) => own_beats(own, c, port),
-    }
+    best.is_none_or(|c| own_beats(own, c, port))
 }
 
 // Whether Ebest, the candidate `e`, is better by topology than the best of port `port`; not so where that is absent.
+#[tactic(auto, unfolding(crate::specs::Deciding::nearer_of))]
 fn nearer(e: Candidate, clock: u64, port: u8, best: Option<Candidate>) -> bool
     ensures { result ≡ nearer_of e clock port best }
 {
-    let Some(c) = best else {
-        return false;
-    };
-    by_topology(compare(set_of(e, clock, e.port), set_of(c, clock, port)))
+    best.is_some_and(|c| compare(set_of(e, clock, e.port), set_of(c, clock, port)).by_topology())
 }
 
 // What a port is told to do: be a master (M), a slave (S) or passive (P), and by which rule.
-#[derive(Clone, Copy)]
+#[derive(Clone, Copy, Debug, PartialEq, Eq)]
 pub enum Decision {
     M1,
     M2,
@@ -213,7 +177,7 @@ pub enum Decision {
 
 // Whose lead all ports follow: our own clock's by its class, our own clock's because nothing that is heard beats it, or that
 // of Ebest.
-#[derive(Clone, Copy)]
+#[derive(Clone, Copy, Debug, PartialEq, Eq)]
 pub enum Lead {
     Class,
     Ours,
@@ -264,7 +228,13 @@ fn by_ebest(e: Candidate, clock: u64, listed: bool, port: u8, best: Option<Candi
 }
 
 // The decision of port `port`, a port of the clock, by the lead, and by whether the port is in the ranked list.
-pub fn led(own: Grandmaster, lead: Lead, listed: bool, port: u8, best: Option<Candidate>) -> Decision
+pub fn led(
+    own: Grandmaster,
+    lead: Lead,
+    listed: bool,
+    port: u8,
+    best: Option<Candidate>,
+) -> Decision
     ensures { result ≡ led_of own lead listed port best }
 {
     match lead {
@@ -284,7 +254,13 @@ fn rule(own: Grandmaster, list: Ranked, port: u8, best: Option<Candidate>) -> De
 }
 
 // The decision of port `port`: by our own clock, the ranked list of all ports, and the port's best.
-pub fn decide(own: Grandmaster, list: Ranked, port: u8, best: Option<Candidate>) -> Result<Decision, Refusal>
+#[tactic(auto, unfolding(refusal::specs::Choice::refuse))]
+pub fn decide(
+    own: Grandmaster,
+    list: Ranked,
+    port: u8,
+    best: Option<Candidate>,
+) -> Result<Decision, Refusal>
     ensures { result ≡ decide_of own list port best }
 {
     if !refusal::is_port(port) {

@@ -213,6 +213,7 @@ pub fn is_ranked(r: Ranked) -> bool
 }
 
 // The ranked list of all that two ranked lists were ranked of.
+#[tactic(auto, unfolding(refusal::specs::Choice::refuse))]
 pub fn merge(a: Ranked, b: Ranked) -> Result<Ranked, Refusal>
     ensures { result ≡ merge_of a b }
 {
@@ -223,6 +224,7 @@ pub fn merge(a: Ranked, b: Ranked) -> Result<Ranked, Refusal>
 }
 
 // The ranked list of a run of candidates, which come in any order and may be repeated.
+#[tactic(auto, unfolding(refusal::specs::Choice::refuse))]
 pub fn rank(run: &[Candidate]) -> Result<Ranked, Refusal>
     ensures { result ≡ ranking_of run.now }
 {
