@@ -1,6 +1,6 @@
 -- However the ports are spread over cards, and the cards' lists merged: the list at the top is the same, and with it
 -- every decision.
-use Rattle.std.specs.Prelude.{Ok}
+use Rattle.std.specs.Prelude.{Result, Ok}
 use Prim.Native.Nat.{ℕ, suc, ◌*◌, ◌≤◌, ◌<◌}
 use mathlib.Core.Path.{◌≡◌, refl, sym, ap, ap₂, subst, ◌∙◌}
 use mathlib.Core.List.Memᴰ
@@ -9,11 +9,12 @@ use mathlib.Core.Bool.{true, false}
 use native.Mathlib.Omega.{arith}
 use lib.ListN.{length, length-append}
 use Rattle.refusal.specs.Choice.{refuse}
+use Rattle.refusal.specs.declared.Refusal.{Refusal}
 use Rattle.rank.specs.declared.Grandmaster.{Grandmaster}
 use Rattle.rank.specs.declared.Candidate.{Candidate}
-use Rattle.rank.specs.declared.Ranking.{Ranking}
+use Rattle.rank.specs.declared.Ranked.{Ranked}
 use Rattle.rank.specs.Ranked.{is_port, rank_of}
-use Rattle.rank.specs.Calls.{done_of, merge_of}
+use Rattle.rank.specs.Calls.{done_of, merge_of, list_of}
 use Rattle.rank.proofs.Best.{either}
 use Rattle.rank.proofs.Laws.{Same, any_order, ranked, merge_of_ranks}
 use Rattle.senders.specs.Port.{candidates_of}
@@ -88,7 +89,7 @@ module _ (ws : List ℕ) (t : ℕ) where
   gathers (join l r) s h =
       let hl = ports_left (ports_of l) (ports_of r) h in
       let hr = ports_right (ports_of l) (ports_of r) h in
-      ap₂ (λ (x y : Ranking). merge_of x.list y.list) (gathers l s.0 hl) (gathers r s.1 hr)
+      ap₂ (λ (x y : Result Ranked Refusal). merge_of (list_of x) (list_of y)) (gathers l s.0 hl) (gathers r s.1 hr)
       ∙ merge_of_ranks (heard_on ws t (ports_of l)) (heard_on ws t (ports_of r)) (heard_valid ws t (ports_of l) hl) (heard_valid ws t (ports_of r) hr)
       ∙ ap (λ (k : List Candidate). done_of (rank_of k)) (sym (heard_append (ports_of l) (ports_of r)))
 
@@ -106,9 +107,9 @@ module _ (ws : List ℕ) (t : ℕ) where
 
     -- AND SO IS EVERY DECISION
     pub any_cards_decide : (own : Grandmaster) (i : ℕ) → i < 18
-        → decide_of own (gathered_of ws t c).list (suc i) (erbest_of (best_on ws (suc i) t)) ≡ Ok (decision_at own ws t (suc i))
+        → decide_of own (list_of (gathered_of ws t c)) (suc i) (erbest_of (best_on ws (suc i) t)) ≡ Ok (decision_at own ws t (suc i))
     unfolding elected_of refuse
     any_cards_decide own i h =
         let e : gathered_of ws t c ≡ done_of (list_at ws t) = any_cards ∙ rw none in
-        ap (λ (r : Ranking). decide_of own r.list (suc i) (erbest_of (best_on ws (suc i) t))) e
+        ap (λ (r : Result Ranked Refusal). decide_of own (list_of r) (suc i) (erbest_of (best_on ws (suc i) t))) e
         ∙ decided own ws t none i h

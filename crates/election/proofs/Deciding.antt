@@ -1,6 +1,6 @@
 -- Deciding every port by the ranked list of all of them: nothing is refused here, the calls of a single port give the
 -- decisions that are defined, and so do the places of the candidates.
-use Rattle.std.specs.Prelude.{Option, Some, None, Result, Ok}
+use Rattle.std.specs.Prelude.{Option, Some, None, Result, Ok, Err}
 use Prim.Native.Nat.{ℕ, suc, ◌<◌}
 use mathlib.Core.Path.{◌≡◌, refl, sym, ap, ap₂, subst, ◌∙◌}
 use mathlib.Core.List.{List, [], ◌∷◌, map}
@@ -15,7 +15,6 @@ use Rattle.rank.specs.declared.Grandmaster.{Grandmaster}
 use Rattle.rank.specs.declared.Candidate.{Candidate}
 use Rattle.rank.specs.declared.Ranked.{Ranked}
 use Rattle.rank.specs.Ranked.{is_port, pack, unpack, holds_of, is_ranked}
-use Rattle.rank.specs.Calls.{refused_of}
 use Rattle.rank.proofs.Best.{All, cases}
 use Rattle.rank.proofs.Merging.{AllValid, unpack_pack, ranked_valid, ranked_passes}
 use Rattle.senders.specs.Port.{tab, best_of}
@@ -27,10 +26,11 @@ use Rattle.ports.specs.Places.{place_on, candidate_at, found_at}
 use Rattle.ports.proofs.Placing.{best_at}
 use Rattle.decide.specs.Deciding.{own_beats, beats_erbest, decision_of, decide_of}
 use Rattle.decide.specs.declared.Lead.{Lead}
+use Rattle.decide.specs.declared.Lead.TheVariants.{Class, Ours, Ebest}
 use Rattle.decide.specs.Leading.{lead_of, led_of}
 use Rattle.decide.proofs.ByLead.{led_is}
 use Rattle.election.specs.Elected.{every_port, any_late, heard_on, elected_of}
-use Rattle.election.specs.Decisions.{code_of, erbest_of, list_at, decision_at, octets_at, out_after, leads, parent_of, followed_by, chosen_by}
+use Rattle.election.specs.Decisions.{code_of, erbest_of, list_at, decision_at, octets_at, out_after, leads, parent_by, parent_of, followed_by, chosen_by}
 use Rattle.election.specs.Places.{gather, places_at, listed_in, octet_by}
 use Rattle.election.proofs.Electing.{all_tab, every_port_lem, heard_valid}
 use Rattle.election.proofs.Gathering.{listed_holds, gathered}
@@ -107,13 +107,13 @@ module _ (ws : List ℕ) (t : ℕ) (words : Words64 ws) (list : Ranked) (e : lis
   list_of_all = ap unpack listed_is ∙ unpack_pack (list_at ws t)
 
 module _ (ws : List ℕ) (t : ℕ) (late : Bool) (e : late ≡ any_late ws t every_port) where
-  pub elected_late : late ≡ true → refused_of Backward ≡ elected_of ws t every_port
+  pub elected_late : late ≡ true → Err Backward ≡ elected_of ws t every_port
   unfolding elected_of refuse
   elected_late h = rw (sym e ∙ h)
 
-  pub elected_done : late ≡ false → (list : Ranked) → list ≡ pack (list_at ws t) → record { outcome = (Ok tt); list = list } ≡ elected_of ws t every_port
+  pub elected_done : late ≡ false → (list : Ranked) → list ≡ pack (list_at ws t) → Ok list ≡ elected_of ws t every_port
   unfolding elected_of refuse
-  elected_done h list f = rw (sym e ∙ h) (ap (λ (r : Ranked). record { outcome = (Ok tt); list = r }) f)
+  elected_done h list f = rw (sym e ∙ h) (ap (λ (r : Ranked). Ok r) f)
 
   pub out_left : late ≡ true → (own : Grandmaster) (out : List ℕ) → out ≡ out_after own ws t out
   out_left h own out = rw (sym e ∙ h)
@@ -145,3 +145,17 @@ chosen_parent own list e l h f =
     ∙ ap (λ (m : List Candidate). followed_by (decision_of own m e.port None) e) f
     ∙ follows own e l None
     ∙ sym (rw (h, f))
+
+-- and by the lead
+abbrev pub parent_led : Lead → Result (Option Candidate) Refusal
+parent_led Class = Ok None
+parent_led Ours = Ok None
+parent_led (Ebest e) = Ok (Some e)
+
+pub led_parent : (own : Grandmaster) (l : List Candidate) → parent_led (lead_of own l) ≡ parent_by own l
+unfolding leads
+led_parent own [] = cases (leb 1 own.class && leb own.class 127) (λ h. rw h) (λ h. rw h)
+led_parent own (e ∷ l) =
+    cases (leb 1 own.class && leb own.class 127)
+    (λ h. rw h)
+    (λ h. cases (own_beats own e e.port) (λ k. rw (h, k)) (λ k. rw (h, k)))

@@ -19,7 +19,6 @@ use Rattle.rank.proofs.Best.{Good, Under, Away, cases, rank_step, rank_good, ran
 use Rattle.rank.proofs.Order.{ordered}
 use Rattle.rank.proofs.Merging.{R, defined}
 use Rattle.senders.specs.Port.{tab, candidates_of, head_of, best_of}
-use Rattle.slots.proofs.Laws.{length_tab}
 use Rattle.slots.proofs.Cases.{Words64}
 use Rattle.ports.specs.Words.{port_at}
 use Rattle.ports.specs.Places.{place_on, port_by, candidate_at}
@@ -27,7 +26,7 @@ use Rattle.ports.proofs.Placing.{best_at, place_inside, place_port}
 use Rattle.election.specs.declared.Top.{Top}
 use Rattle.election.specs.Elected.{every_port, heard_on}
 use Rattle.election.specs.Decisions.{list_at}
-use Rattle.election.specs.Places.{top_of, rank_among, put_at, grown_of, with_place, gather, places_at, listed_in, Each, Inside, Below, Joins, Held}
+use Rattle.election.specs.Places.{top_of, rank_among, put_at, with_place, gather, places_at, listed_in, Each, Inside, Below, Joins, Held}
 use Rattle.election.proofs.Bests.{One, one_best, best_counts}
 use Rattle.election.proofs.Electing.{Ports, every_port_lem, port_in_lem, own_candidates, heard_valid}
 
@@ -73,61 +72,6 @@ none_here n xs i h = drop_of_length-le (take n xs) {i = i} (omega (arith, length
 pub each_here : (P : ℕ → Type 0) (n : ℕ) (xs : List ℕ) (i : ℕ) → Each P (take n xs) → i < n → n ≤ length xs → P (get_or xs i 0)
 each_here P n xs i h k m =
     subst P (get_or-take n xs i 0 k) (each_at P (take n xs) i h (omega (arith, length-take n xs)))
-
--- ---- four places
-abbrev Four : (List ℕ → Type 0) → Type 0
-Four P = (b c d e : ℕ) → P (b ∷ c ∷ d ∷ e ∷ [])
-
-four : (P : List ℕ → Type 0) → Four P → (xs : List ℕ) → length xs ≡ 4 → P xs
-four P f [] h = absurd (omega arith)
-four P f (_ ∷ []) h = absurd (omega arith)
-four P f (_ ∷ _ ∷ []) h = absurd (omega arith)
-four P f (_ ∷ _ ∷ _ ∷ []) h = absurd (omega arith)
-four P f (b ∷ c ∷ d ∷ e ∷ []) h = f b c d e
-four P f (_ ∷ _ ∷ _ ∷ _ ∷ _ ∷ l) h = absurd (omega arith)
-
-to_four : (P : ℕ → Type 0) → P 0 → P 1 → P 2 → P 3 → P 4 → (n : ℕ) → n ≤ 4 → P n
-to_four P a b c d e zero h = a
-to_four P a b c d e (suc zero) h = b
-to_four P a b c d e (suc (suc zero)) h = c
-to_four P a b c d e (suc (suc (suc zero))) h = d
-to_four P a b c d e (suc (suc (suc (suc zero)))) h = e
-to_four P a b c d e (suc (suc (suc (suc (suc n))))) h = absurd (omega arith)
-
-pub grown_few : (n : ℕ) → n ≤ 4 → grown_of n ≤ 4
-grown_few = to_four (λ n. grown_of n ≤ 4) (omega arith) (omega arith) (omega arith) (omega arith) (omega arith)
-
--- a place put behind the first i of the first n of four
-module _ (xs : List ℕ) (size : length xs ≡ 4) (n : ℕ) (few : n ≤ 4) (a : ℕ) where
-  pub put_0 : 0 ≤ n → take (grown_of n) (a ∷ get_or xs 0 0 ∷ get_or xs 1 0 ∷ get_or xs 2 0 ∷ []) ≡ put_at 0 a (take n xs)
-  put_0 =
-      four (λ ys. 0 ≤ n → take (grown_of n) (a ∷ get_or ys 0 0 ∷ get_or ys 1 0 ∷ get_or ys 2 0 ∷ []) ≡ put_at 0 a (take n ys))
-      (λ b c d e. to_four (λ k. 0 ≤ k → take (grown_of k) (a ∷ b ∷ c ∷ d ∷ []) ≡ put_at 0 a (take k (b ∷ c ∷ d ∷ e ∷ [])))
-      (λ h. refl) (λ h. refl) (λ h. refl) (λ h. refl) (λ h. refl) n few) xs size
-
-  pub put_1 : 1 ≤ n → take (grown_of n) (get_or xs 0 0 ∷ a ∷ get_or xs 1 0 ∷ get_or xs 2 0 ∷ []) ≡ put_at 1 a (take n xs)
-  put_1 =
-      four (λ ys. 1 ≤ n → take (grown_of n) (get_or ys 0 0 ∷ a ∷ get_or ys 1 0 ∷ get_or ys 2 0 ∷ []) ≡ put_at 1 a (take n ys))
-      (λ b c d e. to_four (λ k. 1 ≤ k → take (grown_of k) (b ∷ a ∷ c ∷ d ∷ []) ≡ put_at 1 a (take k (b ∷ c ∷ d ∷ e ∷ [])))
-      (λ h. absurd (omega arith)) (λ h. refl) (λ h. refl) (λ h. refl) (λ h. refl) n few) xs size
-
-  pub put_2 : 2 ≤ n → take (grown_of n) (get_or xs 0 0 ∷ get_or xs 1 0 ∷ a ∷ get_or xs 2 0 ∷ []) ≡ put_at 2 a (take n xs)
-  put_2 =
-      four (λ ys. 2 ≤ n → take (grown_of n) (get_or ys 0 0 ∷ get_or ys 1 0 ∷ a ∷ get_or ys 2 0 ∷ []) ≡ put_at 2 a (take n ys))
-      (λ b c d e. to_four (λ k. 2 ≤ k → take (grown_of k) (b ∷ c ∷ a ∷ d ∷ []) ≡ put_at 2 a (take k (b ∷ c ∷ d ∷ e ∷ [])))
-      (λ h. absurd (omega arith)) (λ h. absurd (omega arith)) (λ h. refl) (λ h. refl) (λ h. refl) n few) xs size
-
-  pub put_3 : 3 ≤ n → take (grown_of n) (get_or xs 0 0 ∷ get_or xs 1 0 ∷ get_or xs 2 0 ∷ a ∷ []) ≡ put_at 3 a (take n xs)
-  put_3 =
-      four (λ ys. 3 ≤ n → take (grown_of n) (get_or ys 0 0 ∷ get_or ys 1 0 ∷ get_or ys 2 0 ∷ a ∷ []) ≡ put_at 3 a (take n ys))
-      (λ b c d e. to_four (λ k. 3 ≤ k → take (grown_of k) (b ∷ c ∷ d ∷ a ∷ []) ≡ put_at 3 a (take k (b ∷ c ∷ d ∷ e ∷ [])))
-      (λ h. absurd (omega arith)) (λ h. absurd (omega arith)) (λ h. absurd (omega arith)) (λ h. refl) (λ h. refl) n few) xs size
-
-  pub put_4 : 4 ≤ n → take n xs ≡ put_at 4 a (take n xs)
-  put_4 =
-      four (λ ys. 4 ≤ n → take n ys ≡ put_at 4 a (take n ys))
-      (λ b c d e. to_four (λ k. 4 ≤ k → take k (b ∷ c ∷ d ∷ e ∷ []) ≡ put_at 4 a (take k (b ∷ c ∷ d ∷ e ∷ [])))
-      (λ h. absurd (omega arith)) (λ h. absurd (omega arith)) (λ h. absurd (omega arith)) (λ h. absurd (omega arith)) (λ h. refl) n few) xs size
 
 -- ---- candidates laid over blank slots, one after the other
 pub laid_on : (m bs : List Candidate) (i : ℕ) (x d : Candidate) → i < length m → length m ≤ length bs → x ≡ get_or m i d
@@ -268,11 +212,11 @@ module _ (ws : List ℕ) where
         each_map (Lower p) (Below (place_on ws p t)) l (λ b k. (k.0, let m = k.1 in omega arith)) h
 
     -- so that it can join them
-    pub joins : (p : ℕ) → is_port p ≡ true → (top : Top) (a : ℕ) → a ≡ place_on ws p t → length ws ≡ 1764 → top.len ≤ 4 → Each (Lower p) (top_of top)
-        → Joins ws a top
-    joins p i top a e n few h =
-        subst (λ (k : ℕ). Joins ws k top) (sym e)
-        (record { words = n; inside = place_inside p i ws t; small = few; below = below_place p i (top_of top) h })
+    pub joins : (p : ℕ) → is_port p ≡ true → (top : Top) (a : ℕ) → a ≡ place_on ws p t → top.len ≤ 4 → Each (Lower p) (top_of top)
+        → Joins a top
+    joins p i top a e few h =
+        subst (λ (k : ℕ). Joins k top) (sym e)
+        (record { inside = place_inside p i ws t; small = few; below = below_place p i (top_of top) h })
 
     pub gather_one : (l : List ℕ) (p : ℕ) (ps : List ℕ) → gather ws t l (p ∷ ps) ≡ gather ws t (with_place ws l (place_on ws p t)) ps
     unfolding gather
@@ -306,15 +250,15 @@ module _ (ws : List ℕ) where
     pub gathered_inside : Each Inside (gather ws t [] every_port)
     gathered_inside = inside_all every_port [] every_port_lem tt
 
-    pub held : (top : Top) → length ws ≡ 1764 → top_of top ≡ gather ws t [] every_port → top.len ≤ 4 → Held ws top
-    held top n e few = record { words = n; small = few; inside = subst (Each Inside) (sym e) gathered_inside }
+    pub held : (top : Top) → top_of top ≡ gather ws t [] every_port → top.len ≤ 4 → Held top
+    held top e few = record { small = few; inside = subst (Each Inside) (sym e) gathered_inside }
 
     -- and so do those at every port's place
-    pub places_inside : (l : List ℕ) → l ≡ places_at ws t → (length l ≡ 18) × Each Inside l
+    pub places_inside : (l : List ℕ) → l ≡ places_at ws t → Each Inside l
     places_inside l e =
         let i : Each Inside (places_at ws t) =
         each_tab Inside 18 (λ k. place_on ws (suc k) t) (λ k h. place_inside (suc k) (port_in_lem (suc k) (omega arith) (omega arith)) ws t) in
-        (ap length e ∙ length_tab 18 (λ k. place_on ws (suc k) t), subst (Each Inside) (sym e) i)
+        subst (Each Inside) (sym e) i
 
     module _ (words : Words64 ws) where
       -- one port more

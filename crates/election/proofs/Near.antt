@@ -16,6 +16,7 @@ use Rattle.rank.specs.declared.Grandmaster.{Grandmaster}
 use Rattle.rank.specs.declared.Candidate.{Candidate}
 use Rattle.rank.specs.Order.{earlier_of}
 use Rattle.rank.specs.Ranked.{is_port, rank_of, unpack, is_ranked, receiver_of}
+use Rattle.rank.specs.Calls.{list_of}
 use Rattle.rank.proofs.Best.{All, cases, rank_all}
 use Rattle.rank.proofs.Order.{ordered}
 use Rattle.rank.proofs.Merging.{AllValid, defined, unpack_pack, all_append, both, valid_sound}
@@ -81,8 +82,8 @@ not_master x c e = let z : ◌≡◌ {A = ℕ} 0 1 = cc in omega arith
 pub record NoneDistant (own : Grandmaster) (ws : List ℕ) (t : ℕ) : Type 0 where
   pub candidate : (port slot : ℕ) (c : Candidate) → candidate_on ws port slot t ≡ Ok (Some c) → Near c
   pub best : (port : ℕ) (c : Candidate) → best_on ws port t ≡ Ok (Some c) → Near c
-  pub listed : All Near (unpack (elected_of ws t every_port).list)
-  pub parent : (c : Candidate) → parent_of own (elected_of ws t every_port).list ≡ Ok (Some c) → Near c
+  pub listed : All Near (unpack (list_of (elected_of ws t every_port)))
+  pub parent : (c : Candidate) → parent_of own (list_of (elected_of ws t every_port)) ≡ Ok (Some c) → Near c
 
 module _ (own : Grandmaster) (ws : List ℕ) (t : ℕ) where
   near_heard : (ps : List ℕ) → All Near (heard_on ws t ps)
@@ -96,7 +97,7 @@ module _ (own : Grandmaster) (ws : List ℕ) (t : ℕ) where
       let s = candidates_of port p t in
       near_head (rank_of s) c (near_rank s (valid_sound s (candidates_valid port p t h)) (near_candidates port p t)) (sym (best_first port p t h) ∙ e)
 
-  near_listed : All Near (unpack (elected_of ws t every_port).list)
+  near_listed : All Near (unpack (list_of (elected_of ws t every_port)))
   unfolding elected_of refuse
   near_listed =
       let l = rank_of (heard_on ws t every_port) in
@@ -104,9 +105,9 @@ module _ (own : Grandmaster) (ws : List ℕ) (t : ℕ) where
       (λ e. rw e tt)
       (λ e. rw (e, unpack_pack l) (near_rank (heard_on ws t every_port) (heard_valid ws t every_port every_port_lem) (near_heard every_port)))
 
-  near_parent : (c : Candidate) → parent_of own (elected_of ws t every_port).list ≡ Ok (Some c) → Near c
+  near_parent : (c : Candidate) → parent_of own (list_of (elected_of ws t every_port)) ≡ Ok (Some c) → Near c
   near_parent c e =
-      let list = (elected_of ws t every_port).list in
+      let list = list_of (elected_of ws t every_port) in
       let f = (passed (Err refusal.Unranked) (parent_by own (unpack list)) (Ok (Some c)) (not (is_ranked list)) (not_master refusal.Unranked c) e).1 in
       (subst (All Near) (parent_first own (unpack list) c f) near_listed).0
 

@@ -15,9 +15,9 @@ use Rattle.refusal.specs.declared.Refusal.{Refusal}
 use Rattle.refusal.specs.declared.Refusal.TheVariants.{Port, Backward}
 use Rattle.rank.specs.declared.Grandmaster.{Grandmaster}
 use Rattle.rank.specs.declared.Candidate.{Candidate}
-use Rattle.rank.specs.declared.Ranking.{Ranking}
+use Rattle.rank.specs.declared.Ranked.{Ranked}
 use Rattle.rank.specs.Ranked.{is_port, pack, holds_of}
-use Rattle.rank.specs.Calls.{refused_of}
+use Rattle.rank.specs.Calls.{outcome_of}
 use Rattle.rank.proofs.Best.{cases}
 use Rattle.rank.proofs.Merging.{unpack_pack, port-sound, ranked_valid, AllValid}
 use Rattle.senders.specs.Record.{window_of, is_qualified, candidate_of}
@@ -95,7 +95,7 @@ module _ (own : Grandmaster) where
   parent_first [] x h = cc
   parent_first (e ∷ l) x h = ap (λ (c : Candidate). c ∷ l) (parent_is h)
     where
-      parent_is : pick (leads own e) (Ok None) (Ok (Some e)) ≡ Ok (Some x) → e ≡ x
+      parent_is : ◌≡◌ {A = Result (Option Candidate) Refusal} (pick (leads own e) (Ok None) (Ok (Some e))) (Ok (Some x)) → e ≡ x
       parent_is h = cases (leads own e) (λ k. let z : ◌≡◌ {A = Result (Option Candidate) Refusal} (Ok None) (Ok (Some x)) = rw k at h in cc) (λ k. let z : ◌≡◌ {A = Result (Option Candidate) Refusal} (Ok (Some e)) (Ok (Some x)) = rw k at h in cc)
 
 -- ---- every port's decision at a time
@@ -179,7 +179,7 @@ module _ (ws : List ℕ) (t : ℕ) where
       (λ l. late_in ps h.1 (rw l at e))
 
   -- WHERE A PORT'S CANDIDATES ARE REFUSED WITH 11, SO IS THE WHOLE
-  pub late_refuses : (p slot : ℕ) → candidate_on ws p slot t ≡ Err Backward → elected_of ws t every_port ≡ refused_of Backward
+  pub late_refuses : (p slot : ℕ) → candidate_on ws p slot t ≡ Err Backward → elected_of ws t every_port ≡ Err Backward
   unfolding elected_of refuse
   late_refuses p slot h =
       let l = late_when p slot h in
@@ -194,7 +194,7 @@ module _ (ws : List ℕ) (t : ℕ) where
       cc)
 
   -- AND NOTHING ELSE IS REFUSED
-  pub refused_late : (x : Refusal) → (elected_of ws t every_port).outcome ≡ Err x → (x ≡ Backward) × Late ws t
+  pub refused_late : (x : Refusal) → (outcome_of (elected_of ws t every_port)) ≡ Err x → (x ≡ Backward) × Late ws t
   unfolding elected_of refuse
   refused_late x h =
       cases (any_late ws t every_port)
@@ -202,15 +202,15 @@ module _ (ws : List ℕ) (t : ℕ) where
       (λ e. let z : ◌≡◌ {A = Result (Unit {0}) Refusal} (Ok tt) (Err x) = rw e at h in absurd (let y : ◌≡◌ {A = ℕ} 0 1 = cc in omega arith))
 
   -- THE SAME BY ITS NUMBER: a line that holds is the number given, and the number given has its line
-  pub when_elect : {n : ℕ} → ElectWhen ws t n → numbered.code_of (elected_of ws t every_port).outcome ≡ n
+  pub when_elect : {n : ℕ} → ElectWhen ws t n → numbered.code_of (outcome_of (elected_of ws t every_port)) ≡ n
   unfolding elected_of refuse
-  when_elect (late l) = ap (λ (r : Ranking). numbered.code_of r.outcome) (late_refuses l.port 0 (l.refused 0))
+  when_elect (late l) = ap (λ (r : Result Ranked Refusal). numbered.code_of (outcome_of r)) (late_refuses l.port 0 (l.refused 0))
   when_elect (elected none) =
       cases (any_late ws t every_port)
       (λ e. absurd (none (late_in every_port every_port_lem e)))
       (λ e. rw e)
 
-  pub elect_told : ElectWhen ws t (numbered.code_of (elected_of ws t every_port).outcome)
+  pub elect_told : ElectWhen ws t (numbered.code_of (outcome_of (elected_of ws t every_port)))
   unfolding elected_of refuse
   elect_told =
       cases (any_late ws t every_port)
@@ -219,6 +219,6 @@ module _ (ws : List ℕ) (t : ℕ) where
       rw e
       (elected
       (λ l.
-      let z : numbered.code_of (elected_of ws t every_port).outcome ≡ 11 = when_elect (late l) in
+      let z : numbered.code_of (outcome_of (elected_of ws t every_port)) ≡ 11 = when_elect (late l) in
       let y : ◌≡◌ {A = ℕ} 0 11 = rw e at z in
       omega (arith, y))))

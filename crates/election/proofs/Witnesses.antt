@@ -1,5 +1,5 @@
 -- A clock that hears one master, computed: what it elects and decides, and when it refuses.
-use Rattle.std.specs.Prelude.{Ok}
+use Rattle.std.specs.Prelude.{Err, Ok}
 use Prim.Native.Nat.{ℕ, zero, suc}
 use mathlib.Core.Path.{◌≡◌, refl, ap, sym, subst}
 use mathlib.Core.List.{List, [], ◌∷◌}
@@ -8,7 +8,7 @@ use Rattle.refusal.specs.declared.Refusal.TheVariants.{Backward}
 use Rattle.rank.specs.declared.Grandmaster.{Grandmaster}
 use Rattle.rank.specs.declared.Candidate.{Candidate}
 use Rattle.rank.specs.Ranked.{rank_of}
-use Rattle.rank.specs.Calls.{refused_of, done_of}
+use Rattle.rank.specs.Calls.{done_of}
 use Rattle.senders.specs.declared.Notice.{Notice}
 use Rattle.senders.specs.declared.Record.{Record}
 use Rattle.senders.specs.Record.{fresh_of, next_of, candidate_of}
@@ -94,9 +94,9 @@ pub m3 : decision_at ours clock 6 1 ≡ M3
 m3 = moved (λ (ws : List ℕ). decision_at ours ws 6 1 ≡ M3) m3_flat
 
 -- refused with 11 for the sake of one port, at a time that the seventeen others would answer
-refused_flat : elected_of flat 5 every_port ≡ refused_of Backward
+refused_flat : elected_of flat 5 every_port ≡ Err Backward
 unfolding elected_of refuse any_late tab zeros words_of record_of
 refused_flat = refl
 
-pub refused : elected_of clock 5 every_port ≡ refused_of Backward
-refused = moved (λ (ws : List ℕ). elected_of ws 5 every_port ≡ refused_of Backward) refused_flat
+pub refused : elected_of clock 5 every_port ≡ Err Backward
+refused = moved (λ (ws : List ℕ). elected_of ws 5 every_port ≡ Err Backward) refused_flat

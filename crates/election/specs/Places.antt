@@ -1,5 +1,6 @@
 -- What only the code needs: the best candidates of all ports, kept by their places in the words until the list is made.
-use Rattle.std.specs.Prelude.{ℕ, suc, ◌+◌, ◌/◌, ◌≤◌, ◌<◌, ◌≡◌, List, [], ◌∷◌, ◌++◌, Bool, false, ◌||◌, eqb, ltb, length, take, drop}
+use Rattle.std.specs.Prelude.{ℕ, suc, ◌+◌, ◌/◌, ◌≤◌, ◌<◌, ◌≡◌, List, [], ◌∷◌, ◌++◌, Bool, eqb, take, drop}
+use Rattle.std.specs.List.{list_any}
 use Rattle.refusal.specs.Limits.{port_count}
 use Rattle.refusal.specs.Choice.{pick}
 use Rattle.rank.specs.declared.Grandmaster.{Grandmaster}
@@ -26,9 +27,6 @@ rank_among ws a (b ∷ l) = pick (earlier_of (candidate_at ws a) (candidate_at w
 abbrev pub put_at : ℕ → ℕ → List ℕ → List ℕ
 put_at i a l = take 4 (take i l ++ a ∷ drop i l)
 
-abbrev pub grown_of : ℕ → ℕ
-grown_of n = pick (ltb n 4) (n + 1) n
-
 -- a port's place more, where it has one
 abbrev pub with_place : List ℕ → List ℕ → ℕ → List ℕ
 with_place ws l a = pick (eqb a 0) l (put_at (rank_among ws a l) a l)
@@ -44,8 +42,7 @@ places_at ws t = tab port_count (λ i. place_on ws (suc i) t)
 
 -- one of some places is of port p
 abbrev pub listed_in : ℕ → List ℕ → Bool
-listed_in p [] = false
-listed_in p (a ∷ l) = eqb (port_by a) p || listed_in p l
+listed_in p l = list_any (λ a. eqb (port_by a) p) l
 
 -- a port's number by the lead, the places of the list, and the port's place
 abbrev pub octet_by : List ℕ → Grandmaster → Lead → List ℕ → ℕ → ℕ → ℕ
@@ -65,21 +62,18 @@ abbrev pub Below : ℕ → ℕ → Type 0
 Below a b = Inside b × (b / port_words < a / port_words)
 
 -- a place that can be compared with those of a top
-pub record Comes (ws : List ℕ) (a : ℕ) (top : Top) : Type 0 where
-  pub words : length ws ≡ all_words
+pub record Comes (a : ℕ) (top : Top) : Type 0 where
   pub inside : Inside a
   pub small : top.len ≤ 4
   pub below : Each (Below a) (top_of top)
 
 -- the same of a place that is one
-pub record Joins (ws : List ℕ) (a : ℕ) (top : Top) : Type 0 where
-  pub words : length ws ≡ all_words
+pub record Joins (a : ℕ) (top : Top) : Type 0 where
   pub inside : Inside a
   pub small : top.len ≤ 4
   pub below : (a ≡ 0 → ⊥) → Each (Below a) (top_of top)
 
 -- a top whose candidates can be taken out of the words
-pub record Held (ws : List ℕ) (top : Top) : Type 0 where
-  pub words : length ws ≡ all_words
+pub record Held (top : Top) : Type 0 where
   pub small : top.len ≤ 4
   pub inside : Each Inside (top_of top)

@@ -4,33 +4,22 @@
 //
 // Refused with 11 where asking some port for its candidates at that time is; then no decision is written. What a decision
 // brings about is left to the host.
-ghost use Rattle.std.specs.Prelude.{◌≡◌, [], map, suc, ◌≤◌, length, get_or};
+ghost use Rattle.std.specs.Prelude.{◌≡◌, [], map, suc, ◌≤◌, get_or};
 ghost use Rattle.rank.specs.Ranked.{pack};
-ghost use Rattle.rank.specs.Calls.{refused_of};
 ghost use Rattle.senders.specs.Port.{tab};
 ghost use Rattle.ports.specs.Places.{candidate_at, found_at};
 ghost use Rattle.election.specs.Elected.{every_port, any_late, elected_of};
-ghost use Rattle.election.specs.Decisions.{code_of, erbest_of, out_after, parent_of, chosen_by, followed_by};
-ghost use Rattle.election.specs.Places.{top_of, rank_among, put_at, grown_of, with_place, gather, places_at, listed_in, octet_by, Each, Inside, Comes, Joins, Held};
+ghost use Rattle.election.specs.Decisions.{code_of, erbest_of, out_after, parent_of};
+ghost use Rattle.election.specs.Places.{top_of, rank_among, put_at, with_place, gather, places_at, listed_in, octet_by, Each, Inside, Comes, Joins, Held};
 ghost use Rattle.refusal.specs.Limits.{port_count};
-ghost use Rattle.ports.specs.Words.{all_words};
 
 use decide::{Decision, Lead};
-use rank::{Candidate, Grandmaster, Ranked, Ranking};
+use ports::WORDS;
+use rank::{Candidate, Grandmaster, Ranked};
 use refusal::Refusal;
 
 // The ports of the clock are numbered from 1 to this.
 const PORTS: u8 = refusal::PORTS as u8;
-
-// A refusal, with the empty list.
-fn refused(x: Refusal) -> Ranking
-    ensures { result ≡ refused_of x }
-{
-    Ranking {
-        outcome: Err(x),
-        list: rank::empty(),
-    }
-}
 
 // The best candidates that some ports hear, by their places in the words, best first: the first `len` places. One of a port,
 // and no more than four.
@@ -40,28 +29,27 @@ struct Top {
     places: [usize; 4],
 }
 
-// How many of the places of `top` the candidate at `a` does not stand before.
-fn position(words: &[u64], top: Top, a: usize) -> usize
-    requires { Comes words.now a top }
-    ensures { result ≡ rank_among words.now a (top_of top) }
-{
-    let n = top.len;
-    let mut i: usize = 0;
-    while i < n {
-        let b = top.places[i];
-        if ports::places::is_before(words, a, b) {
-            return i;
-        }
-        i += 1;
+impl Top {
+    // The places.
+    fn used(&self) -> &[usize]
+        requires { self.now.len ≤ 4 }
+        ensures { result.now ≡ top_of self.now }
+    {
+        &self.places[..self.len]
     }
-    i
 }
 
-// How many places there are with one more.
-fn grown(n: usize) -> usize
-    ensures { result ≡ grown_of n }
+// How many of the places of `top` the candidate at `a` does not stand before.
+fn position(words: &[u64; WORDS], top: Top, a: usize) -> usize
+    requires { Comes a top }
+    ensures { result ≡ rank_among words.now a (top_of top) }
 {
-    if n < 4 { n + 1 } else { n }
+    for i in 0..top.len {
+        if ports::places::is_before(words, a, top.places[i]) {
+            return i;
+        }
+    }
+    top.len
 }
 
 // The places with one more behind the first `i` of them.
@@ -69,52 +57,33 @@ fn put_at(top: Top, i: usize, a: usize) -> Top
     requires { (top.len ≤ 4) × (i ≤ top.len) }
     ensures { (top_of result ≡ put_at i a (top_of top)) × (result.len ≤ 4) }
 {
-    let len = grown(top.len);
-    let b = top.places[0];
-    let c = top.places[1];
-    let d = top.places[2];
-    if i == 0 {
-        return Top {
-            len,
-            places: [a, b, c, d],
-        };
+    let [b, c, d, _] = top.places;
+    let places = match i {
+        0 => [a, b, c, d],
+        1 => [b, a, c, d],
+        2 => [b, c, a, d],
+        3 => [b, c, d, a],
+        _ => return top,
+    };
+    Top {
+        len: (top.len + 1).min(4),
+        places,
     }
-    if i == 1 {
-        return Top {
-            len,
-            places: [b, a, c, d],
-        };
-    }
-    if i == 2 {
-        return Top {
-            len,
-            places: [b, c, a, d],
-        };
-    }
-    if i == 3 {
-        return Top {
-            len,
-            places: [b, c, d, a],
-        };
-    }
-    top
 }
 
-// The places with one port's more, where it has one.
-fn with_place(words: &[u64], top: Top, a: usize) -> Top
-    requires { Joins words.now a top }
+// The places with one port's more, where it has one. No record is at place 0, which lies in what the first port keeps of itself.
+fn with_place(words: &[u64; WORDS], top: Top, a: usize) -> Top
+    requires { Joins a top }
     ensures { (top_of result ≡ with_place words.now (top_of top) a) × (result.len ≤ 4) }
 {
     if a == 0 {
         return top;
     }
-    let i = position(words, top, a);
-    put_at(top, i, a)
+    put_at(top, position(words, top, a), a)
 }
 
 // Asks each port for its best at `t`: the place of each, and those of the four best of all.
-fn listen(words: &[u64], t: u64, places: &mut [usize]) -> Top
-    requires { (length words.now ≡ all_words) × (length places.old ≡ port_count) }
+fn listen(words: &[u64; WORDS], t: u64, places: &mut [usize; refusal::PORTS]) -> Top
     ensures top { (top_of result ≡ gather words.now t [] every_port) × (result.len ≤ 4) }
     ensures places { places.new ≡ places_at words.now t }
 {
@@ -122,68 +91,48 @@ fn listen(words: &[u64], t: u64, places: &mut [usize]) -> Top
         len: 0,
         places: [0; 4],
     };
-    let mut p: u8 = 1;
-    while p <= PORTS {
+    for p in 1..PORTS + 1 {
         let a = ports::places::place(words, p, t);
         places[p as usize - 1] = a;
         top = with_place(words, top, a);
-        p += 1;
     }
     top
 }
 
 // The ranked list of the candidates at the places.
-fn list_of(words: &[u64], top: Top) -> Ranked
-    requires { Held words.now top }
+fn list_of(words: &[u64; WORDS], top: Top) -> Ranked
+    requires { Held top }
     ensures { result ≡ pack (map (candidate_at words.now) (top_of top)) }
 {
-    let none = rank::empty();
-    let n = top.len;
-    let mut slots = none.slots;
-    let mut i: usize = 0;
-    while i < n {
-        let a = top.places[i];
-        slots[i] = ports::places::candidate(words, a);
-        i += 1;
+    let mut list = rank::empty();
+    list.len = top.len;
+    for i in 0..top.len {
+        list.slots[i] = ports::places::candidate(words, top.places[i]);
     }
-    Ranked { len: n, slots }
+    list
 }
 
 // Whether `t` lies before the last accepted time of some port.
-fn late(words: &[u64], t: u64) -> bool
-    requires { length words.now ≡ all_words }
+fn late(words: &[u64; WORDS], t: u64) -> bool
     ensures { result ≡ any_late words.now t every_port }
 {
-    let mut p: u8 = 1;
-    while p <= PORTS {
+    for p in 1..PORTS + 1 {
         if ports::places::is_late(words, p, t) {
             return true;
         }
-        p += 1;
     }
     false
 }
 
-fn elect_in(words: &[u64], t: u64) -> Ranking
-    requires { length words.now ≡ all_words }
+// The ranked list of all candidates of all ports at `t`: of each port the best alone can be in it.
+pub fn elect(words: &[u64; WORDS], t: u64) -> Result<Ranked, Refusal>
     ensures { result ≡ elected_of words.now t every_port }
 {
     if late(words, t) {
-        return refused(Refusal::Backward);
+        return Err(Refusal::Backward);
     }
-    let mut places = [0usize; refusal::PORTS];
-    let top = listen(words, t, &mut places[..]);
-    Ranking {
-        outcome: Ok(()),
-        list: list_of(words, top),
-    }
-}
-
-// The ranked list of all candidates of all ports at `t`: of each port the best alone can be in it.
-pub fn elect(words: &[u64; ports::WORDS], t: u64) -> Ranking
-    ensures { result ≡ elected_of words.now t every_port }
-{
-    elect_in(&words[..], t)
+    let top = listen(words, t, &mut [0; refusal::PORTS]);
+    Ok(list_of(words, top))
 }
 
 // A decision's number: M1, M2, M3, S1, S2, P1, P2 are 1 to 7.
@@ -206,22 +155,17 @@ fn listed(top: Top, p: u8) -> bool
     requires { (top.len ≤ 4) × Each Inside (top_of top) }
     ensures { result ≡ listed_in p (top_of top) }
 {
-    let n = top.len;
-    let mut i: usize = 0;
-    while i < n {
-        let a = top.places[i];
-        let port = ports::places::port_of(a);
-        if port == p as usize {
+    for a in top.used() {
+        if ports::places::port_of(*a) == p as usize {
             return true;
         }
-        i += 1;
     }
     false
 }
 
 // The candidate at a port's place, as deciding takes it.
-fn erbest(words: &[u64], a: usize) -> Option<Candidate>
-    requires { (length words.now ≡ all_words) × Inside a }
+fn erbest(words: &[u64; WORDS], a: usize) -> Option<Candidate>
+    requires { Inside a }
     ensures { result ≡ erbest_of (found_at words.now a) }
 {
     if a == 0 {
@@ -231,8 +175,8 @@ fn erbest(words: &[u64], a: usize) -> Option<Candidate>
 }
 
 // The octet of port `p`, whose best is at `a`.
-fn octet(words: &[u64], own: Grandmaster, lead: Lead, top: Top, p: u8, a: usize) -> u8
-    requires { Held words.now top × Inside a }
+fn octet(words: &[u64; WORDS], own: Grandmaster, lead: Lead, top: Top, p: u8, a: usize) -> u8
+    requires { Held top × Inside a }
     ensures { result ≡ octet_by words.now own lead (top_of top) p a }
 {
     let best = erbest(words, a);
@@ -241,71 +185,41 @@ fn octet(words: &[u64], own: Grandmaster, lead: Lead, top: Top, p: u8, a: usize)
 }
 
 // Writes each port's octet.
-fn write(words: &[u64], own: Grandmaster, lead: Lead, top: Top, places: &[usize], out: &mut [u8])
-    requires { Held words.now top × (length out.old ≡ port_count) × (length places.now ≡ port_count) × Each Inside places.now }
+fn write(
+    words: &[u64; WORDS],
+    own: Grandmaster,
+    lead: Lead,
+    top: Top,
+    places: &[usize; refusal::PORTS],
+    out: &mut [u8; refusal::PORTS],
+)
+    requires { Held top × Each Inside places.now }
     ensures { out.new ≡ tab port_count (λ i. octet_by words.now own lead (top_of top) (suc i) (get_or places.now i 0)) }
 {
-    let mut p: u8 = 1;
-    while p <= PORTS {
+    for p in 1..PORTS + 1 {
         let a = places[p as usize - 1];
         out[p as usize - 1] = octet(words, own, lead, top, p, a);
-        p += 1;
-    }
-}
-
-fn decide_in(words: &[u64], own: Grandmaster, t: u64, out: &mut [u8]) -> Ranking
-    requires { (length words.now ≡ all_words) × (length out.old ≡ port_count) }
-    ensures { (result ≡ elected_of words.now t every_port) × (out.new ≡ out_after own words.now t out.old) }
-{
-    if late(words, t) {
-        return refused(Refusal::Backward);
-    }
-    let mut places = [0usize; refusal::PORTS];
-    let top = listen(words, t, &mut places[..]);
-    let list = list_of(words, top);
-    let lead = decide::leading(own, list);
-    write(words, own, lead, top, &places[..], out);
-    Ranking {
-        outcome: Ok(()),
-        list,
     }
 }
 
 // Decides every port at `t`: the ranked list of all ports, and in `out` the number of each port's decision, port 1 first.
 pub fn decide_all(
-    words: &[u64; ports::WORDS],
+    words: &[u64; WORDS],
     own: Grandmaster,
     t: u64,
     out: &mut [u8; refusal::PORTS],
-) -> Ranking
+) -> Result<Ranked, Refusal>
     ensures { (result ≡ elected_of words.now t every_port) × (out.new ≡ out_after own words.now t out.old) }
 {
-    decide_in(&words[..], own, t, &mut out[..])
-}
-
-// The parent by the decision of Ebest's port: Ebest where it is S1.
-fn followed(d: Decision, e: Candidate) -> Result<Option<Candidate>, Refusal>
-    ensures { result ≡ followed_by d e }
-{
-    match d {
-        Decision::M1 => Ok(None),
-        Decision::M2 => Ok(None),
-        Decision::M3 => Ok(None),
-        Decision::S1 => Ok(Some(e)),
-        Decision::S2 => Ok(None),
-        Decision::P1 => Ok(None),
-        Decision::P2 => Ok(None),
+    if late(words, t) {
+        return Err(Refusal::Backward);
     }
-}
-
-// The same by what deciding answers.
-fn chosen(a: Result<Decision, Refusal>, e: Candidate) -> Result<Option<Candidate>, Refusal>
-    ensures { result ≡ chosen_by a e }
-{
-    match a {
-        Ok(d) => followed(d, e),
-        Err(x) => Err(x),
-    }
+    let mut places = [0; refusal::PORTS];
+    let top = listen(words, t, &mut places);
+    let list = list_of(words, top);
+    let lead = decide::leading(own, list);
+    write(words, own, lead, top, &places, out);
+    Ok(list)
 }
 
 // The parent by a ranked list: Ebest, unless our own clock leads. Refused with 15 where the list is not a ranked list.
@@ -315,9 +229,8 @@ pub fn parent(own: Grandmaster, list: Ranked) -> Result<Option<Candidate>, Refus
     if !rank::is_ranked(list) {
         return Err(Refusal::Unranked);
     }
-    if list.len == 0 {
-        return Ok(None);
+    match decide::leading(own, list) {
+        Lead::Ebest(e) => Ok(Some(e)),
+        Lead::Class | Lead::Ours => Ok(None),
     }
-    let e = list.slots[0];
-    chosen(decide::decide(own, list, e.port, None), e)
 }

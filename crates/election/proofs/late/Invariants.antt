@@ -7,6 +7,3 @@ use Rattle.election.proofs.late.Given as goal
 
 abbrev pub invariant-loop-p : goal.invariant-loop-p
 invariant-loop-p l = (1 ≤ l.p) × (l.p ≤ 19) × (any_late l.words l.t (drop (l.p - 1) every_port) ≡ any_late l.words l.t every_port)
-
-abbrev pub decreases-loop-p : goal.decreases-loop-p
-decreases-loop-p l = 19 - l.p

@@ -11,7 +11,7 @@ pub loop-i-preserved : goal.loop-i-preserved
 loop-i-preserved c =
     let x = c.args.top in
     let ws = c.args.words.now in (
-      omega arith,
+      c.loop-i.invariant.0,
       ap (λ (s : List Candidate). set s c.loop-i.i c.candidate.result) c.loop-i.invariant.1
           ∙ laid_place ws x.places c.well_formed.1.0.1.1.1.0.1.0.1 x.len c.requires.small c.loop-i.i (omega arith) c.candidate.result c.candidate.ensures,
     )

@@ -16,12 +16,12 @@ use Rattle.election.proofs.listen.Goals as goal
 
 pub loop-p-init : goal.loop-p-init
 loop-p-init c =
-    record { filled = none_written _ _ c.requires.1; whole = refl; few = omega arith; lower = tt }
+    record { filled = none_written _ _ c.told-places; whole = refl; few = omega arith; lower = tt }
 
 pub place-a-requires : goal.place-a-requires
 place-a-requires c =
     let n = c.loop-p.invariant.filled.from in
-    (c.requires.0, port_in_lem c.loop-p.p (omega arith) (omega arith))
+    port_in_lem c.loop-p.p (omega arith) (omega arith)
 
 pub overflow_sub-places : goal.overflow_sub-places
 overflow_sub-places c =
@@ -33,7 +33,7 @@ with_place-top-requires c =
     let n = c.loop-p.invariant.filled.from in
     let p = c.loop-p.p in
     let i = port_in_lem p (omega arith) (omega arith) in
-    joins c.args.words.now c.args.t p i c.loop-p.top _ c.place-a.ensures c.requires.0 c.loop-p.invariant.few c.loop-p.invariant.lower
+    joins c.args.words.now c.args.t p i c.loop-p.top _ c.place-a.ensures c.loop-p.invariant.few c.loop-p.invariant.lower
 
 pub loop-p-preserved : goal.loop-p-preserved
 loop-p-preserved c =

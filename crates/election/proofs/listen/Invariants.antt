@@ -21,6 +21,3 @@ pub record Heard (ws : List ℕ) (t : ℕ) (places : List ℕ) (top : Top) (p : 
 
 abbrev pub invariant-loop-p : goal.invariant-loop-p
 invariant-loop-p l = Heard l.words l.t l.places l.top l.p
-
-abbrev pub decreases-loop-p : goal.decreases-loop-p
-decreases-loop-p l = 19 - l.p

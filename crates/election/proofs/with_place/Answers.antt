@@ -8,4 +8,4 @@ use Rattle.election.proofs.with_place.Goals as goal
 pub put_at-requires : goal.put_at-requires
 put_at-requires c =
     let x = c.args.top in
-    (c.requires.small, omega (arith, c.position-i.ensures, among_few c.args.words.now c.args.a (top_of x), length-take x.len x.places))
+    (c.requires.small, omega (arith, c.position.ensures, among_few c.args.words.now c.args.a (top_of x), length-take x.len x.places))

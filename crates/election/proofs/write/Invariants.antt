@@ -7,6 +7,3 @@ use Rattle.election.proofs.write.Given as goal
 
 abbrev pub invariant-loop-p : goal.invariant-loop-p
 invariant-loop-p l = Written (λ k. octet_by l.words l.own l.lead (top_of l.top) k (get_or l.places (k - 1) 0)) l.out l.p
-
-abbrev pub decreases-loop-p : goal.decreases-loop-p
-decreases-loop-p l = 19 - l.p
