@@ -1,4 +1,5 @@
 -- Two lists merged where they lie: a list is ranked where ranking it moves none of its candidates, and one filled into the other is their merging.
+use Rattle.std.specs.Prelude.{Result}
 use Prim.Native.Nat.{ℕ, zero, suc, ◌+◌, ◌*◌, ◌≤◌, ◌<◌}
 use mathlib.Core.Path.{◌≡◌, refl, sym, ap, ap₂, ◌∙◌, subst}
 use mathlib.Core.Bool.{Bool, true, false, ◌&&◌, ◌||◌}
@@ -11,16 +12,18 @@ use lib.Seq.{slice, slice_empty, length-slice, ext_get_or, get_or-drop, get_or-t
 use Rattle.laws.proofs.Bools.{clash}
 use Rattle.refusal.specs.Choice.{refuse}
 use Rattle.rank.specs.declared.Candidate.{Candidate}
-use Rattle.rank.specs.declared.Ranking.{Ranking}
+use Rattle.refusal.specs.declared.Refusal.{Refusal}
+use Rattle.rank.specs.declared.Ranked.{Ranked}
 use Rattle.rank.specs.Order.{earlier_of}
 use Rattle.rank.specs.Ranked.{receiver_of, all_valid, rank_of, blank_of, pack, unpack, insert_all, in_rank, is_ranked}
-use Rattle.rank.specs.Calls.{done_of}
+use Rattle.rank.specs.Calls.{done_of, outcome_of}
 use Rattle.rank.proofs.Best.{cases, rank_swap}
 use Rattle.rank.proofs.Order.{ordered}
 use Rattle.rank.proofs.Merging.{R, AllValid, both, defined, valid_sound, unpack_pack, ranked_passes, all_append}
 use Rattle.candidate_words.specs.declared.places.Places.{Places}
 use Rattle.candidate_words.specs.Candidates.{ranked_of, ranked_words}
 use Rattle.candidate_words.specs.Fits.{candidate_fits, slot_fits, list_fits}
+use Rattle.candidate_words.specs.Answers.{ranking_words}
 use Rattle.candidate_words.specs.Runs.{run_of}
 use Rattle.candidate_words.specs.Places.{candidate_of, list_of, Fit, Inside, eight_of, unmoved_of, Stands, Tried, merged_of, Merged}
 use Rattle.candidate_words.proofs.RunLaws.{run_length, run_at, slice_here}
@@ -174,12 +177,12 @@ module _ (a b : List ℕ) where
       rw (first_fits x, second_fits y, p, q) in
       record {
         left = t.left;
-        outcome = λ e. ap (λ (r : Ranking). r.outcome) (all e);
+        outcome = λ e. ap outcome_of (all e);
         words =
             λ e.
             t.words e
             ∙ ap₂ (λ (l m : List Candidate). ranked_words (pack (rank_of (l ++ m)))) (first_list h) second_list
-            ∙ sym (ap (λ (r : Ranking). ranked_words r.list) (all e));
+            ∙ sym (ap (λ (r : Result Ranked Refusal). ranking_words r before) (all e));
       }
 
 -- nothing was done

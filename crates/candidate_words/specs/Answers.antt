@@ -1,11 +1,10 @@
 -- What sender records, ranking and deciding answer: the number returned, and the words at exit, which a refusal leaves as they
 -- were (01, "Numbers that refuse": "A refusal returns its number alone. State, output buffers and input stay as they were.").
-use Rattle.std.specs.Prelude.{ℕ, List, [], ◌∷◌, Option, Some, None, Result, Ok, Err}
+use Rattle.std.specs.Prelude.{ℤ, ℕ, List, [], ◌∷◌, Option, Some, None, Result, Ok, Err}
 use Rattle.std.specs.Int.{w64}
 use Rattle.std.proofs.Common.{of_z}
 use Rattle.refusal.specs.Refusal.{number_of}
 use Rattle.rank.specs.declared.Ranked.{Ranked}
-use Rattle.rank.specs.declared.Ranking.{Ranking}
 use Rattle.senders.specs.declared.Record.{Record}
 pub use Rattle.decide.specs.When.{decided_code}
 use Rattle.decide.specs.declared.Comparison.{Comparison}
@@ -59,12 +58,9 @@ looked_words (Err x) out = out
 looked_words (Ok s) out = seen_words s
 
 -- a ranked list: a count and four candidates
-abbrev pub list_words : Result (Unit {0}) Refusal → Ranked → List ℕ → List ℕ
-list_words (Ok tt) list out = ranked_words list
-list_words (Err x) list out = out
-
-abbrev pub ranking_words : Ranking → List ℕ → List ℕ
-ranking_words x out = list_words x.outcome x.list out
+abbrev pub ranking_words : Result Ranked Refusal → List ℕ → List ℕ
+ranking_words (Ok list) out = ranked_words list
+ranking_words (Err x) out = out
 
 -- a decision by its number
 abbrev pub decided_words : Result Decision Refusal → List ℕ → List ℕ

@@ -2,7 +2,7 @@
 -- that is handed over in words. Its own refusals come first, in 01's order.
 use Rattle.std.specs.Prelude.{ℕ, ◌+◌, ◌*◌, Bool, true, false, ◌&&◌, ◌||◌, List, [], ◌∷◌, eqb, leb, ltb, get_or, Option, Some, None, Result, Ok, Err}
 use Rattle.refusal.specs.declared.Refusal.TheVariants.{Field}
-use Rattle.rank.specs.declared.Ranking.{Ranking}
+use Rattle.rank.specs.declared.Ranked.{Ranked}
 use Rattle.rank.specs.declared.Candidate.{Candidate}
 use Rattle.decide.specs.declared.Decision.{Decision}
 use Rattle.refusal.specs.declared.Refusal.{Refusal}
@@ -44,8 +44,10 @@ outcome_fitted true x = x
 outcome_fitted false (Ok tt) = Err Field
 outcome_fitted false (Err x) = Err x
 
-abbrev pub ranking_fitted : Bool → Ranking → Ranking
-ranking_fitted fits x = record { outcome = outcome_fitted fits x.outcome; list = x.list }
+abbrev pub ranking_fitted : Bool → Result Ranked Refusal → Result Ranked Refusal
+ranking_fitted true x = x
+ranking_fitted false (Ok r) = Err Field
+ranking_fitted false (Err x) = Err x
 
 abbrev pub answer_fitted : Bool → Result Decision Refusal → Result Decision Refusal
 answer_fitted true x = x

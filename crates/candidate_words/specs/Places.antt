@@ -5,12 +5,12 @@ use Rattle.refusal.specs.Choice.{pick}
 use Rattle.rank.specs.declared.Candidate.{Candidate}
 use Rattle.rank.specs.declared.Ranked.{Ranked}
 use Rattle.rank.specs.Order.{lex}
-use Rattle.rank.specs.declared.Ranking.{Ranking}
 use Rattle.rank.specs.Ranked.{is_port, in_rank, rank_of, pack}
-use Rattle.rank.specs.Calls.{ranking_of, merge_of}
+use Rattle.rank.specs.Calls.{ranking_of, merge_of, outcome_of}
 use Rattle.candidate_words.specs.declared.places.Places.{Places}
 use Rattle.candidate_words.specs.Candidates.{candidate_at, ranked_of, ranked_words}
 use Rattle.candidate_words.specs.Fits.{candidate_fits, list_fits, run_fits, outcome_fitted, ranking_fitted}
+use Rattle.candidate_words.specs.Answers.{ranking_words}
 use Rattle.candidate_words.specs.Runs.{run_of}
 use Rattle.refusal.specs.declared.Refusal.{Refusal}
 
@@ -60,7 +60,7 @@ row_of run p k = pick (ltb k p.len) (get_or run (get_or p.at k 0) []) (0 ∷ 0 �
 
 -- what ranking a run answers before anything is ranked: 17, 8, then 18
 abbrev pub checked_of : List (List ℕ) → Result (Unit {0}) Refusal
-checked_of run = outcome_fitted (run_fits run) (ranking_of (run_of run)).outcome
+checked_of run = outcome_fitted (run_fits run) (outcome_of (ranking_of (run_of run)))
 
 -- two lists as a run of eight candidates
 unfoldable pub eight_of : List ℕ → List ℕ → List (List ℕ)
@@ -93,10 +93,10 @@ pub record Tried (run : List (List ℕ)) (n m : ℕ) (done : Bool) (before after
   pub words : done ≡ true → after ≡ ranked_words (pack (rank_of (slice 0 n (run_of run) ++ slice 4 (4 + m) (run_of run))))
 
 -- what merging two lists answers: 15, then 18
-abbrev pub merged_of : List ℕ → List ℕ → Ranking
+abbrev pub merged_of : List ℕ → List ℕ → Result Ranked Refusal
 merged_of a b = ranking_fitted (list_fits a && list_fits b) (merge_of (ranked_of a) (ranked_of b))
 
 pub record Merged (a b : List ℕ) (done : Bool) (before after : List ℕ) : Type 0 where
   pub left : done ≡ false → after ≡ before
-  pub outcome : done ≡ true → (merged_of a b).outcome ≡ Ok tt
-  pub words : done ≡ true → after ≡ ranked_words (merged_of a b).list
+  pub outcome : done ≡ true → outcome_of (merged_of a b) ≡ Ok tt
+  pub words : done ≡ true → after ≡ ranking_words (merged_of a b) before

@@ -1,26 +1,27 @@
 // What sender records, ranking and deciding answer, put into words that are lent: the number returned is 0, or that of the
 // refusal, and then the words are as they were.
-ghost use Rattle.std.specs.Prelude.{◌≡◌};
+ghost use Rattle.std.specs.Prelude.{◌≡◌, []};
 ghost use Rattle.refusal.specs.Refusal.{code_of};
+ghost use Rattle.rank.specs.Calls.{outcome_of};
 ghost use Rattle.candidate_words.specs.Answers.{status_code, status_words, record_words, seen_words, looked_code, looked_words, decided_code, decided_words, leader_code, leader_words, comparison_number, ranking_words};
 
-use refusal::Refusal;
 use decide::{Comparison, Decision};
-use rank::{Candidate, Ranking};
+use rank::{Candidate, Ranked};
+use refusal::Refusal;
 use senders::Record;
 
 // A port's last accepted time and its interval's exponent.
+fn port_words(x: (u64, i8)) -> [u64; 2]
+    ensures { result ≡ status_words (Ok x) [] }
+{
+    [x.0, words::word_of_i8(x.1)]
+}
+
 pub fn put_status(out: &mut [u64; 2], s: Result<(u64, i8), Refusal>) -> u64
     ensures answer { result ≡ status_code s }
     ensures words { out.new ≡ status_words s out.old }
 {
-    match s {
-        Err(x) => refusal::number(x),
-        Ok((last, k)) => {
-            *out = [last, words::word_of_i8(k)];
-            0
-        }
-    }
+    words::put(out, s.map(port_words).map_err(refusal::number))
 }
 
 // 1 and a record: the sender, sequenceId, how many receipts, the newest and the older, then what a candidate is made of.
@@ -50,17 +51,10 @@ fn record_words(r: Record) -> [u64; 15]
 }
 
 // What a slot holds, zeros where it never held a record.
-fn put_seen(out: &mut [u64; 15], s: Option<Record>)
-    ensures { out.new ≡ seen_words s }
+fn seen_words(s: Option<Record>) -> [u64; 15]
+    ensures { result ≡ seen_words s }
 {
-    match s {
-        None => {
-            *out = [0; 15];
-        }
-        Some(r) => {
-            *out = record_words(r);
-        }
-    }
+    s.map_or([0; 15], record_words)
 }
 
 // What looking into a slot gives.
@@ -68,29 +62,28 @@ pub fn put_looked(out: &mut [u64; 15], l: Result<Option<Record>, Refusal>) -> u6
     ensures answer { result ≡ looked_code l }
     ensures words { out.new ≡ looked_words l out.old }
 {
-    match l {
-        Err(x) => refusal::number(x),
-        Ok(s) => {
-            put_seen(out, s);
+    words::put(out, l.map(seen_words).map_err(refusal::number))
+}
+
+// What ranking and merging give.
+pub fn put_ranking(out: &mut [u64; 45], x: Result<Ranked, Refusal>) -> u64
+    ensures answer { result ≡ code_of (outcome_of x) }
+    ensures words { out.new ≡ ranking_words x out.old }
+{
+    match x {
+        Err(y) => refusal::answer(y),
+        Ok(list) => {
+            *out = crate::candidates::ranked_words(list);
             0
         }
     }
 }
 
-// What ranking and merging give.
-pub fn put_ranking(out: &mut [u64; 45], x: Ranking) -> u64
-    ensures answer { result ≡ code_of x.outcome }
-    ensures words { out.new ≡ ranking_words x out.old }
+// A decision's number.
+fn decision_words(d: Decision) -> [u64; 1]
+    ensures { result ≡ decided_words (Ok d) [] }
 {
-    let outcome = x.outcome;
-    let list = x.list;
-    match outcome {
-        Err(y) => refusal::answer(y),
-        Ok(()) => {
-            *out = crate::candidates::ranked_words(list);
-            0
-        }
-    }
+    [election::code(d).into()]
 }
 
 // What deciding gives.
@@ -98,13 +91,7 @@ pub fn put_decided(out: &mut [u64; 1], a: Result<Decision, Refusal>) -> u64
     ensures answer { result ≡ decided_code a }
     ensures words { out.new ≡ decided_words a out.old }
 {
-    match a {
-        Err(x) => refusal::number(x),
-        Ok(d) => {
-            *out = [election::code(d) as u64];
-            0
-        }
-    }
+    words::put(out, a.map(decision_words).map_err(refusal::number))
 }
 
 // Whom the clock follows: 1 and the parent, or zeros where our own clock leads.

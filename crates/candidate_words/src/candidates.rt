@@ -3,10 +3,10 @@
 ghost use Rattle.std.specs.Prelude.{◌≡◌, ◌+◌, ◌≤◌, length};
 ghost use Rattle.candidate_words.specs.Candidates.{grandmaster_at, identity_at, candidate_at, ranked_of, set_of, candidate_words, found_words, ranked_words, asked_code, asked_words, best_of};
 
-use identity::PortIdentity;
-use refusal::Refusal;
 use decide::DataSet;
+use identity::PortIdentity;
 use rank::{Candidate, Grandmaster, Ranked};
+use refusal::Refusal;
 
 // The grandmaster in the six words from `b` on.
 pub fn grandmaster_at(w: &[u64], b: usize) -> Grandmaster

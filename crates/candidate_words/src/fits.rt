@@ -1,10 +1,10 @@
 // Whether words are numbers that their fields can hold. A candidate's port is not asked for here: a port that is none of 1 to 18 is refused by
 // the engine itself, and that of a port's best is not looked at.
 ghost use Rattle.std.specs.Prelude.{◌≡◌, ◌+◌, ◌*◌, ◌≤◌, ◌<◌, length};
-ghost use Rattle.candidate_words.specs.Fits.{grandmaster_fits, candidate_fits, slot_fits, list_fits, set_fits, best_fits, outcome_fitted, ranking_fitted, answer_fitted, leader_fitted};
+ghost use Rattle.candidate_words.specs.Fits.{grandmaster_fits, candidate_fits, slot_fits, list_fits, set_fits, best_fits, ranking_fitted, answer_fitted, leader_fitted};
 
 use decide::Decision;
-use rank::{Candidate, Ranking};
+use rank::{Candidate, Ranked};
 use refusal::Refusal;
 
 // The six words of a grandmaster from `b` on.
@@ -67,54 +67,35 @@ pub fn best_fits(w: &[u64; 12]) -> bool
     (w[0] == 0) | fits
 }
 
-// What a call answers whose words may not fit: 18 where they do not, unless the call itself refuses.
-fn outcome_fitted(x: Result<(), Refusal>, fits: bool) -> Result<(), Refusal>
-    ensures { result ≡ outcome_fitted fits x }
+// What ranking or merging answers whose words may not fit: 18 where they do not, unless the call itself refuses.
+pub fn ranking_fitted(r: Result<Ranked, Refusal>, fits: bool) -> Result<Ranked, Refusal>
+    ensures { result ≡ ranking_fitted fits r }
 {
-    if fits {
-        return x;
-    }
-    match x {
-        Err(_) => x,
-        Ok(()) => Err(Refusal::Field),
-    }
-}
-
-// The same of ranking and merging.
-pub fn ranking_fitted(x: Ranking, fits: bool) -> Ranking
-    ensures { result ≡ ranking_fitted fits x }
-{
-    let outcome = x.outcome;
-    let list = x.list;
-    Ranking {
-        outcome: outcome_fitted(outcome, fits),
-        list,
+    match r {
+        Ok(_) if !fits => Err(Refusal::Field),
+        _ => r,
     }
 }
 
 // The same of deciding.
-pub fn answer_fitted(x: Result<Decision, Refusal>, fits: bool) -> Result<Decision, Refusal>
-    ensures { result ≡ answer_fitted fits x }
+pub fn answer_fitted(d: Result<Decision, Refusal>, fits: bool) -> Result<Decision, Refusal>
+    ensures { result ≡ answer_fitted fits d }
 {
-    if fits {
-        return x;
-    }
-    match x {
-        Err(_) => x,
-        Ok(_) => Err(Refusal::Field),
+    match d {
+        Ok(_) if !fits => Err(Refusal::Field),
+        _ => d,
     }
 }
 
 // The same of asking for the parent.
-pub fn leader_fitted(x: Result<Option<Candidate>, Refusal>, fits: bool) -> Result<Option<Candidate>, Refusal>
-    ensures { result ≡ leader_fitted fits x }
+pub fn leader_fitted(
+    p: Result<Option<Candidate>, Refusal>,
+    fits: bool,
+) -> Result<Option<Candidate>, Refusal>
+    ensures { result ≡ leader_fitted fits p }
 {
-    if fits {
-        return x;
-    }
-    match x {
-        Err(_) => x,
-        Ok(None) => Err(Refusal::Field),
-        Ok(Some(_)) => Err(Refusal::Field),
+    match p {
+        Ok(_) if !fits => Err(Refusal::Field),
+        _ => p,
     }
 }

@@ -4,7 +4,7 @@ ghost use Rattle.std.specs.Prelude.{◌≡◌, [], true, ℕ, ◌+◌, ◌≤◌
 ghost use Rattle.std.proofs.Math.Seq.{slice};
 ghost use Rattle.refusal.specs.Refusal.{code_of};
 ghost use Rattle.rank.specs.Ranked.{left_out, sink_of, insert_all, pack, unpack};
-ghost use Rattle.rank.specs.Calls.{ranking_of};
+ghost use Rattle.rank.specs.Calls.{ranking_of, outcome_of};
 ghost use Rattle.candidate_words.specs.Candidates.{ranked_words};
 ghost use Rattle.candidate_words.specs.Fits.{run_fits, ranking_fitted};
 ghost use Rattle.candidate_words.specs.Runs.{run_of};
@@ -30,12 +30,10 @@ pub struct Places {
 fn lower(a: &[u64; 11], b: &[u64; 11]) -> bool
     ensures { result ≡ lower_of a.now b.now }
 {
-    let mut i: usize = 0;
-    while i < 11 {
+    for i in 0..11 {
         if a[i] != b[i] {
             return a[i] < b[i];
         }
-        i += 1;
     }
     false
 }
@@ -45,11 +43,7 @@ fn left_out(run: &[[u64; 11]], p: Places, c: usize) -> bool
     requires { Inside run.now p × Fit run.now c }
     ensures { result ≡ left_out (list_of run.now p) (candidate_of run.now c) }
 {
-    if p.len != PLACES {
-        return false;
-    }
-    let last = p.at[3];
-    !lower(&run[c], &run[last])
+    p.len == PLACES && !lower(&run[c], &run[p.at[3]])
 }
 
 // Candidate `c` goes down the places, and whichever of two stands later goes on, until one is left out: at a candidate of its own port, or
@@ -63,8 +57,7 @@ fn sink(run: &[[u64; 11]], p: Places, c: usize) -> Places
     let n = p.len;
     let mut at = p.at;
     let mut x = c;
-    let mut i: usize = 0;
-    while i < n {
+    for i in 0..n {
         let y = at[i];
         if lower(&run[x], &run[y]) {
             at[i] = x;
@@ -73,7 +66,6 @@ fn sink(run: &[[u64; 11]], p: Places, c: usize) -> Places
         if run[y][9] == port {
             return Places { len: n, at };
         }
-        i += 1;
     }
     if n < PLACES {
         at[n] = x;
@@ -99,12 +91,10 @@ fn fill(run: &[[u64; 11]], p: Places, from: usize, to: usize) -> Places
     ensures list { list_of run.now result ≡ insert_all (list_of run.now p) (slice from to (run_of run.now)) }
 {
     let mut q = p;
-    let mut i = from;
-    while i < to {
+    for i in from..to {
         if !left_out(run, q, i) {
             q = sink(run, q, i);
         }
-        i += 1;
     }
     q
 }
@@ -113,18 +103,15 @@ fn fill(run: &[[u64; 11]], p: Places, from: usize, to: usize) -> Places
 fn checked(run: &[[u64; 11]]) -> Result<(), Refusal>
     ensures { result ≡ checked_of run.now }
 {
-    let n = run.len();
-    if MOST < n {
+    if MOST < run.len() {
         return Err(Refusal::Many);
     }
     let mut whole = true;
-    let mut i: usize = 0;
-    while i < n {
-        if !refusal::is_port(words::port_of(run[i][9])) {
+    for w in run {
+        if !refusal::is_port(words::port_of(w[9])) {
             return Err(Refusal::Port);
         }
-        whole = whole & crate::fits::one_fits(&run[i]);
-        i += 1;
+        whole = whole & crate::fits::one_fits(w);
     }
     if whole {
         return Ok(());
@@ -204,7 +191,7 @@ fn put(out: &mut [u64; 45], run: &[[u64; 11]], p: Places)
 
 // The ranked list of a run of candidates, eleven words each, in words. They come in any order and may be repeated.
 pub fn rank_run(run: &[[u64; 11]], out: &mut [u64; 45]) -> u64
-    ensures answer { result ≡ code_of (ranking_fitted (run_fits run.now) (ranking_of (run_of run.now))).outcome }
+    ensures answer { result ≡ code_of (outcome_of (ranking_fitted (run_fits run.now) (ranking_of (run_of run.now)))) }
     ensures words { out.new ≡ ranking_words (ranking_fitted (run_fits run.now) (ranking_of (run_of run.now))) out.old }
 {
     let x = checked(run);
@@ -259,15 +246,13 @@ fn all_fit(run: &[[u64; 11]], from: usize, to: usize) -> bool
     requires { (from ≤ to) × (to ≤ length run.now) }
     ensures { result ≡ true → (i : ℕ) → from ≤ i → i < to → Fit run.now i }
 {
-    let mut i = from;
-    while i < to {
+    for i in from..to {
         if !refusal::is_port(words::port_of(run[i][9])) {
             return false;
         }
         if !crate::fits::one_fits(&run[i]) {
             return false;
         }
-        i += 1;
     }
     true
 }
@@ -319,7 +304,7 @@ fn merge_quickly(a: &[u64; 45], b: &[u64; 45], out: &mut [u64; 45]) -> bool
 
 // The ranked list of all that two ranked lists were ranked of, in words. What is refused of them, the engine's own merging says.
 pub fn merge_lists(a: &[u64; 45], b: &[u64; 45], out: &mut [u64; 45]) -> u64
-    ensures answer { result ≡ code_of (merged_of a.now b.now).outcome }
+    ensures answer { result ≡ code_of (outcome_of (merged_of a.now b.now)) }
     ensures words { out.new ≡ ranking_words (merged_of a.now b.now) out.old }
 {
     if merge_quickly(a, b, out) {

@@ -6,6 +6,3 @@ use Rattle.candidate_words.proofs.places.all_fit.Given as goal
 
 abbrev pub invariant-loop-i : goal.invariant-loop-i
 invariant-loop-i l = (l.from ≤ l.i) × (l.i ≤ l.to) × ((k : ℕ) → l.from ≤ k → k < l.i → Fit l.run k)
-
-abbrev pub decreases-loop-i : goal.decreases-loop-i
-decreases-loop-i l = l.to - l.i

@@ -10,6 +10,3 @@ use Rattle.candidate_words.proofs.places.fill.Given as goal
 
 abbrev pub invariant-loop-i : goal.invariant-loop-i
 invariant-loop-i l = (l.from ≤ l.i) × (l.i ≤ l.to) × Inside l.run l.q × (insert_all (list_of l.run l.q) (slice l.i l.to (run_of l.run)) ≡ insert_all (list_of l.run l.initial.q) (slice l.from l.to (run_of l.run)))
-
-abbrev pub decreases-loop-i : goal.decreases-loop-i
-decreases-loop-i l = l.to - l.i

@@ -11,12 +11,12 @@ use Rattle.candidate_words.specs.Places.{candidate_of}
 use Rattle.candidate_words.proofs.PlaceLaws.{order, map_at}
 use Rattle.candidate_words.proofs.places.left_out.Goals as goal
 
-pub returns : goal.returns
-returns c =
+pub returns-then-p-eq-PLACES : goal.returns-then-p-eq-PLACES
+returns-then-p-eq-PLACES c =
     let run = c.args.run.now in
     let p = c.args.p in
-    let last = c.requires.0.each 3 (omega (arith, c.if-p-ne-PLACES.false)) in
+    let last = c.requires.0.each 3 (omega (arith, c.if-p-eq-PLACES.true)) in
     let e : get_or (map (candidate_of run) p.at) 3 blank_of ≡ candidate_of run (get_or p.at 3 0) =
     map_at (candidate_of run) p.at 3 0 blank_of (omega (arith, c.requires.0.size)) in
-    simp (eq-eqb _ _ c.if-p-ne-PLACES.false)
+    simp (eq-eqb _ _ c.if-p-eq-PLACES.true)
     (ap not (c.lower.ensures ∙ order run c.args.c (get_or p.at 3 0) c.requires.1 last ∙ ap (earlier_of (candidate_of run c.args.c)) (sym e)))

@@ -8,6 +8,3 @@ use Rattle.candidate_words.proofs.places.lower.Given as goal
 
 abbrev pub invariant-loop-i : goal.invariant-loop-i
 invariant-loop-i l = (l.i ≤ 11) × (lex (drop l.i (words_at l.a 0)) (drop l.i (words_at l.b 0)) ≡ lower_of l.a l.b)
-
-abbrev pub decreases-loop-i : goal.decreases-loop-i
-decreases-loop-i l = 11 - l.i

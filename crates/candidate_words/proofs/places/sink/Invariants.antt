@@ -13,6 +13,3 @@ abbrev pub invariant-loop-i : goal.invariant-loop-i
 invariant-loop-i l = Inside l.run (record { len = l.n; at = l.at })
     × Fit l.run l.x
     × Down l.port l.n (sink earlier_of receiver_of l.port (candidate_of l.run l.initial.x) (take l.n (map (candidate_of l.run) l.initial.at))) (map (candidate_of l.run) l.initial.at) (map (candidate_of l.run) l.at) (candidate_of l.run l.x) l.i
-
-abbrev pub decreases-loop-i : goal.decreases-loop-i
-decreases-loop-i l = l.n - l.i
