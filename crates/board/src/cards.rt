@@ -3,7 +3,7 @@ ghost use Rattle.std.specs.Prelude.{◌≡◌, ◌≤◌, take};
 ghost use Rattle.rank.specs.Calls.{ranking_of};
 
 use refusal::Refusal;
-use rank::{Candidate, Ranked, Ranking};
+use rank::{Candidate, Ranked};
 
 // Ports on a card, and candidates that they hear at most.
 const PORTS: u8 = 6;
@@ -18,7 +18,7 @@ struct Heard {
 }
 
 // The ranked list of the first n of a run.
-fn ranked(held: [Candidate; MOST], n: usize) -> Ranking
+fn ranked(held: [Candidate; MOST], n: usize) -> Result<Ranked, Refusal>
     requires { n ≤ 96 }
     ensures { result ≡ ranking_of (take n held) }
 {
@@ -79,16 +79,12 @@ fn run(words: &[u64; ports::WORDS], card: u8, t: u64) -> Heard
 // A card's ranked list.
 pub fn list(words: &[u64; ports::WORDS], card: u8, t: u64) -> Ranked {
     let r = run(words, card, t);
-    let n = r.n;
-    let held = r.held;
-    let x = ranked(held, n);
-    x.list
+    ranked(r.held, r.n).unwrap_or(rank::empty())
 }
 
 // Two lists, merged.
 pub fn merged(a: Ranked, b: Ranked) -> Ranked {
-    let x = rank::merge(a, b);
-    x.list
+    rank::merge(a, b).unwrap_or(rank::empty())
 }
 
 // The ranked list of all cards.

@@ -31,7 +31,7 @@ pub fn by_cards(words: &[u64; ports::WORDS], t: u64, own: Grandmaster) -> Parent
 fn by_ports(words: &[u64; ports::WORDS], t: u64, own: Grandmaster) -> Parent {
     let mut told = [0u8; refusal::PORTS];
     let elected = election::decide_all(words, own, t, &mut told);
-    led_by(election::parent(own, elected.list), own)
+    led_by(elected.and_then(|list| election::parent(own, list)), own)
 }
 
 // The parent at `t`; where it is another than before, the page says why.

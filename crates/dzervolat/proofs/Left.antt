@@ -16,8 +16,7 @@ use Rattle.message.specs.Reading.{by}
 use Rattle.writer.specs.Writing.{write_check, write_of, buffer_of, lent_by as filledBy}
 use Rattle.wr_tlvs.specs.Built.{link_octets}
 use Rattle.rank.specs.declared.Ranked.{Ranked}
-use Rattle.rank.specs.declared.Ranking.{Ranking}
-use Rattle.rank.specs.Calls.{refused_of}
+use Rattle.rank.specs.Calls as calls
 use Rattle.senders.specs.Port.{outcome_of}
 use Rattle.ports.specs.declared.intake.Settings.{Settings}
 use Rattle.ports.specs.Intake.{state_after}
@@ -33,8 +32,8 @@ use Rattle.links.specs.Words.{IsPort, step_at, setting_answer, setting_words, ta
 use Rattle.recording.specs.Recording.{told_by, answer_by, lent_by}
 use Rattle.trace_words.specs.Answers.{recorded_code, recorded_words, replayed_code, replayed_words}
 use Rattle.candidate_words.specs.Candidates.{grandmaster_at, asked_code, asked_words}
-use Rattle.candidate_words.specs.Fits.{grandmaster_fits, outcome_fitted}
-use Rattle.candidate_words.specs.Answers.{status_code, status_words, looked_code, looked_words, list_words, ranking_words, decided_code, decided_words, leader_code, leader_words}
+use Rattle.candidate_words.specs.Fits.{grandmaster_fits, outcome_fitted, ranking_fitted}
+use Rattle.candidate_words.specs.Answers.{status_code, status_words, looked_code, looked_words, ranking_words, decided_code, decided_words, leader_code, leader_words}
 use Rattle.message_words.specs.Words.{is_whole, message_of}
 use Rattle.message_words.specs.Writing.{link_message_of, written_code, written_words}
 use Rattle.message_words.specs.Answers.{read_code, read_words, tail_words, tlv_code, tlv_words, walked_code, walked_words, suffix_code, suffix_words, link_code, link_words, origin_words}
@@ -153,12 +152,9 @@ looked_left (Err x) out h = refl
 looked_left (Ok s) out h = absurd (h refl)
 
 -- ---- ranking and deciding
-list_left : (x : Result (Unit {0}) Refusal) (l : Ranked) (out : List ℕ) → Left (code_of x) out (list_words x l out)
-list_left (Ok tt) l out h = absurd (h refl)
-list_left (Err x) l out h = refl
-
-pub ranking_left : (x : Ranking) (out : List ℕ) → Left (code_of x.outcome) out (ranking_words x out)
-ranking_left x out = list_left x.outcome x.list out
+pub ranking_left : (x : Result Ranked Refusal) (out : List ℕ) → Left (code_of (calls.outcome_of x)) out (ranking_words x out)
+ranking_left (Ok l) out h = absurd (h refl)
+ranking_left (Err x) out h = refl
 
 pub decided_left : (x : Result Decision Refusal) (out : List ℕ) → Left (decided_code x) out (decided_words x out)
 decided_left (Ok d) out h = absurd (h refl)
@@ -170,16 +166,16 @@ leader_left (Ok None) out h = absurd (h refl)
 leader_left (Ok (Some c)) out h = absurd (h refl)
 
 -- our quality fits or not, and some port is late or not
-elected_left : (fits late : Bool) (done : Ranking) (octets out : List ℕ) → done.outcome ≡ Ok tt
-    → Left (code_of (outcome_fitted fits (refuse late (refused_of Backward) done).outcome)) out (pick fits (pick late out octets) out)
+elected_left : (fits late : Bool) (list : Ranked) (octets out : List ℕ)
+    → Left (code_of (calls.outcome_of (ranking_fitted fits (refuse late (Err Backward) (Ok list))))) out (pick fits (pick late out octets) out)
 unfolding refuse
-elected_left true true done octets out e h = refl
-elected_left true false done octets out e h = absurd (h (ap code_of e))
-elected_left false late done octets out e h = refl
+elected_left true true list octets out h = refl
+elected_left true false list octets out h = absurd (h refl)
+elected_left false late list octets out h = refl
 
-pub decisions_left : (own ports : List ℕ) (t : ℕ) (out : List ℕ) → Left (code_of (elected_by own ports t).outcome) out (decisions_after own ports t out)
+pub decisions_left : (own ports : List ℕ) (t : ℕ) (out : List ℕ) → Left (code_of (calls.outcome_of (elected_by own ports t))) out (decisions_after own ports t out)
 unfolding elected_of
-decisions_left own ports t out = elected_left (grandmaster_fits own 0) (any_late ports t every_port) _ (octets_at (grandmaster_at own 0) ports t) out refl
+decisions_left own ports t out = elected_left (grandmaster_fits own 0) (any_late ports t every_port) _ (octets_at (grandmaster_at own 0) ports t) out
 
 fitted_left : (fits : Bool) (words out : List ℕ) → Left (code_of (outcome_fitted fits (Ok tt))) out (pick fits words out)
 fitted_left true words out h = absurd (h refl)

@@ -2,7 +2,7 @@
 -- hold it.
 use Rattle.std.specs.Prelude.{ℕ, Bool, ◌&&◌, List, [], ◌∷◌, Option, Result, Ok}
 use Rattle.refusal.specs.Choice.{pick}
-use Rattle.rank.specs.declared.Ranking.{Ranking}
+use Rattle.rank.specs.declared.Ranked.{Ranked}
 use Rattle.rank.specs.Calls.{merge_of, ranking_of}
 use Rattle.decide.specs.Comparing.{compare_of}
 use Rattle.decide.specs.Deciding.{decide_of}
@@ -18,11 +18,11 @@ use Rattle.decide.specs.declared.Decision.{Decision}
 use Rattle.refusal.specs.declared.Refusal.{Refusal}
 
 -- "Ranking: 17, 8.", then 18
-abbrev pub ranked_run : List (List ℕ) → Ranking
+abbrev pub ranked_run : List (List ℕ) → Result Ranked Refusal
 ranked_run run = ranking_fitted (run_fits run) (ranking_of (run_of run))
 
 -- "Merging: 15.", then 18
-abbrev pub merged_lists : List ℕ → List ℕ → Ranking
+abbrev pub merged_lists : List ℕ → List ℕ → Result Ranked Refusal
 merged_lists a b = ranking_fitted (list_fits a && list_fits b) (merge_of (ranked_of a) (ranked_of b))
 
 -- the words that a port is decided by
@@ -35,7 +35,7 @@ decided_by own list port best =
     answer_fitted (decided_fits own list best) (decide_of (grandmaster_at own 0) (ranked_of list) (port_of port) (best_of best))
 
 -- every port's: 11, then 18
-abbrev pub elected_by : List ℕ → List ℕ → ℕ → Ranking
+abbrev pub elected_by : List ℕ → List ℕ → ℕ → Result Ranked Refusal
 elected_by own ports t = ranking_fitted (grandmaster_fits own 0) (elected_of ports t every_port)
 
 -- the decisions at exit

@@ -4,18 +4,19 @@
 // What a word's field cannot hold is refused with 18, after all that the call itself refuses.
 ghost use Rattle.std.specs.Prelude.{◌≡◌};
 ghost use Rattle.refusal.specs.Refusal.{code_of};
+ghost use Rattle.rank.specs.Calls.{outcome_of};
 ghost use Rattle.candidate_words.specs.Answers.{ranking_words, decided_code, decided_words, leader_code, leader_words};
 ghost use Rattle.dzervolat.specs.Ranking.{ranked_run, merged_lists, decided_fits, decided_by, elected_by, decisions_after, parent_in, sets_fit, compared_of, compared_after};
 
 use decide::Decision;
 use candidate_words::{candidates, fits};
-use rank::{Candidate, Ranking};
+use rank::{Candidate, Ranked};
 use refusal::Refusal;
 
 // The ranked list of a run of candidates, in any order, with repeats.
 #[unsafe(no_mangle)]
 pub extern "C" fn dz_rank(run: &[[u64; 11]], list: &mut [u64; 45]) -> u64
-    ensures answer { result ≡ code_of (ranked_run run.now).outcome }
+    ensures answer { result ≡ code_of (outcome_of (ranked_run run.now)) }
     ensures words { list.new ≡ ranking_words (ranked_run run.now) list.old }
 {
     candidate_words::places::rank_run(run, list)
@@ -24,7 +25,7 @@ pub extern "C" fn dz_rank(run: &[[u64; 11]], list: &mut [u64; 45]) -> u64
 // The ranked list of all that two ranked lists were ranked of.
 #[unsafe(no_mangle)]
 pub extern "C" fn dz_merge(a: &[u64; 45], b: &[u64; 45], list: &mut [u64; 45]) -> u64
-    ensures answer { result ≡ code_of (merged_lists a.now b.now).outcome }
+    ensures answer { result ≡ code_of (outcome_of (merged_lists a.now b.now)) }
     ensures words { list.new ≡ ranking_words (merged_lists a.now b.now) list.old }
 {
     candidate_words::places::merge_lists(a, b, list)
@@ -73,7 +74,7 @@ fn elected(
     t: u64,
     own: &[u64; 6],
     decisions: &mut [u8; refusal::PORTS],
-) -> Ranking
+) -> Result<Ranked, Refusal>
     ensures answer { result ≡ elected_by own.now ports.now t }
     ensures octets { decisions.new ≡ decisions_after own.now ports.now t decisions.old }
 {
@@ -93,7 +94,7 @@ pub extern "C" fn dz_decide_all(
     decisions: &mut [u8; refusal::PORTS],
     list: &mut [u64; 45],
 ) -> u64
-    ensures answer { result ≡ code_of (elected_by own.now ports.now t).outcome }
+    ensures answer { result ≡ code_of (outcome_of (elected_by own.now ports.now t)) }
     ensures octets { decisions.new ≡ decisions_after own.now ports.now t decisions.old }
     ensures words { list.new ≡ ranking_words (elected_by own.now ports.now t) list.old }
 {
