@@ -10,13 +10,14 @@ use rank::{Candidate, Ranked};
 use refusal::Refusal;
 use senders::Record;
 
-// A port's last accepted time and its interval's exponent.
+// A time and an exponent, each in a word.
 fn port_words(x: (u64, i8)) -> [u64; 2]
     ensures { result ≡ status_words (Ok x) [] }
 {
     [x.0, words::word_of_i8(x.1)]
 }
 
+// A port's last accepted time and its interval's exponent.
 pub fn put_status(out: &mut [u64; 2], s: Result<(u64, i8), Refusal>) -> u64
     ensures answer { result ≡ status_code s }
     ensures words { out.new ≡ status_words s out.old }

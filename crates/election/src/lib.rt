@@ -71,7 +71,7 @@ fn put_at(top: Top, i: usize, a: usize) -> Top
     }
 }
 
-// The places with one port's more, where it has one. No record is at place 0, which lies in what the first port keeps of itself.
+// The places with one port's more, where it has one. 0 stays for none: no record is there, and eighteen places are as many plain words.
 fn with_place(words: &[u64; WORDS], top: Top, a: usize) -> Top
     requires { Joins a top }
     ensures { (top_of result ≡ with_place words.now (top_of top) a) × (result.len ≤ 4) }
