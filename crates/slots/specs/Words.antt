@@ -111,6 +111,17 @@ abbrev pub later_in : ℕ → ℕ → Bool
 later_in a b =
     pick (eqb (a % 0x10000) (b % 0x10000)) (ltb (a / 0x100000000 % 0x10000) (b / 0x100000000 % 0x10000)) (ltb (a % 0x10000) (b % 0x10000))
 
+-- by the first key before the sender's port that differs; none where they are alike
+abbrev pub first_in : List ℕ → List ℕ → Option Bool
+first_in a b =
+    pick (eqb (get_or a 5 0 / 0x10000) (get_or b 5 0 / 0x10000))
+    (pick (eqb (get_or a 4 0) (get_or b 4 0))
+    (pick (eqb (get_or a 5 0 % 0x10000) (get_or b 5 0 % 0x10000))
+    (pick (eqb (get_or a 0 0) (get_or b 0 0)) None (Some (ltb (get_or a 0 0) (get_or b 0 0))))
+    (Some (ltb (get_or a 5 0 % 0x10000) (get_or b 5 0 % 0x10000))))
+    (Some (ltb (get_or a 4 0) (get_or b 4 0))))
+    (Some (ltb (get_or a 5 0 / 0x10000) (get_or b 5 0 / 0x10000)))
+
 abbrev pub before_in : List ℕ → List ℕ → Bool
 before_in a b =
     pick (eqb (get_or a 5 0 / 0x10000) (get_or b 5 0 / 0x10000))

@@ -10,7 +10,7 @@ ghost use Rattle.std.specs.Prelude.{◌≡◌, ◌+◌, ◌-◌, ◌≤◌, ◌<
 ghost use Rattle.refusal.specs.declared.Refusal.TheVariants.{Backward};
 ghost use Rattle.senders.specs.Port.{plan_of, asked_of, candidate_in, best_of};
 ghost use Rattle.senders.specs.Record.{is_of, is_free};
-ghost use Rattle.slots.specs.Words.{block, of_six, six_of, id_word, grade_word, slot_at, port_of, put_slot, words_after, seen_in, before_in, later_in, outdoes_in, port_words, records_of};
+ghost use Rattle.slots.specs.Words.{block, of_six, six_of, id_word, grade_word, slot_at, port_of, put_slot, words_after, seen_in, first_in, before_in, later_in, outdoes_in, port_words, records_of};
 ghost use Rattle.slots.specs.Places.{place_among, place_in, above_in};
 
 use identity::PortIdentity;
@@ -64,21 +64,14 @@ fn pack_id(port: u16, sequence: u16, wrflags: u16, receipts: u16) -> u64
         + 0x1000000000000 * (receipts as u64)
 }
 
-// Puts a record into a slot's six words; the last two are handed on as they were read.
-fn write(s: &mut [u64], r: Record, identity: u64, grade: u64)
-    requires s_len { length s.old ≡ 6 }
-    requires identity_value { (identity ≡ r.notice.grandmaster.identity) × (grade ≡ grade_word r.notice.grandmaster r.notice.steps) }
-    ensures { s.new ≡ six_of r }
+// The six words of a record; the last two are handed on as they were read.
+fn packed(r: Record, identity: u64, grade: u64) -> [u64; RECORD]
+    requires { (identity ≡ r.notice.grandmaster.identity) × (grade ≡ grade_word r.notice.grandmaster r.notice.steps) }
+    ensures { result ≡ six_of r }
 {
     let n = r.notice;
-    let x = n.sender;
-    let id = pack_id(x.port, n.sequence, n.wrflags, r.receipts);
-    s[0] = x.clock;
-    s[1] = id;
-    s[2] = r.newest;
-    s[3] = r.older;
-    s[4] = identity;
-    s[5] = grade;
+    let id = pack_id(n.sender.port, n.sequence, n.wrflags, r.receipts);
+    [n.sender.clock, id, r.newest, r.older, identity, grade]
 }
 
 // The sixteen records of a port.
@@ -103,8 +96,8 @@ fn store(ws: &mut [u64], i: usize, r: Record, identity: u64, grade: u64)
     requires identity_value { (identity ≡ r.notice.grandmaster.identity) × (grade ≡ grade_word r.notice.grandmaster r.notice.steps) }
     ensures { ws.new ≡ put_slot ws.old i r }
 {
-    let b = 2 + 6 * i;
-    write(&mut ws[b..b + 6], r, identity, grade);
+    let b = 2 + RECORD * i;
+    ws[b..b + RECORD].copy_from_slice(&packed(r, identity, grade));
 }
 
 // The lowest slot whose record is a sender's.
@@ -191,26 +184,26 @@ pub fn candidate(
     Ok(None)
 }
 
-// Whether the record of six words stands before that of six others in rank order, on one port. The quality is one number
-// in its word, highest key first, so that it is compared at once.
-fn stands_before(a: &[u64; RECORD], b: &[u64; RECORD]) -> bool
-    ensures { result ≡ before_in a.now b.now }
+// Whether the record of six words comes before that of six others by the first of the keys before the sender's port that differs;
+// none where all are alike. The quality is one number in its word, highest key first, so that it is compared at once.
+fn by_first(a: &[u64; RECORD], b: &[u64; RECORD]) -> Option<bool>
+    ensures { result ≡ first_in a.now b.now }
 {
     let p = a[5];
     let q = b[5];
     if p / 0x10000 != q / 0x10000 {
-        return p / 0x10000 < q / 0x10000;
+        return Some(p / 0x10000 < q / 0x10000);
     }
     if a[4] != b[4] {
-        return a[4] < b[4];
+        return Some(a[4] < b[4]);
     }
     if p % 0x10000 != q % 0x10000 {
-        return p % 0x10000 < q % 0x10000;
+        return Some(p % 0x10000 < q % 0x10000);
     }
     if a[0] != b[0] {
-        return a[0] < b[0];
+        return Some(a[0] < b[0]);
     }
-    later_keys(a[1], b[1])
+    None
 }
 
 // The keys behind the sender's clock: its port, then wrFlags.
@@ -221,6 +214,21 @@ fn later_keys(a: u64, b: u64) -> bool
         return a % 0x10000 < b % 0x10000;
     }
     a / 0x100000000 % 0x10000 < b / 0x100000000 % 0x10000
+}
+
+// Whether the record of six words stands before that of six others in rank order, on one port.
+fn stands_before(a: &[u64; RECORD], b: &[u64; RECORD]) -> bool
+    ensures { result ≡ before_in a.now b.now }
+{
+    by_first(a, b).unwrap_or_else(|| later_keys(a[1], b[1]))
+}
+
+// Whether the record of six words stands before that of six others by the keys that come before the port. Where the
+// others are of a port with a lower number, this is rank order.
+pub fn comes_before(a: &[u64; RECORD], b: &[u64; RECORD]) -> bool
+    ensures { result ≡ above_in a.now b.now }
+{
+    by_first(a, b).unwrap_or(a[1] % 0x10000 < b[1] % 0x10000)
 }
 
 // The six words from a place on.
@@ -260,10 +268,8 @@ fn best_place(ws: &[u64; WORDS], w: u64, t: u64) -> usize
 {
     let begin = since(w, t);
     let mut b: usize = 0;
-    let mut i = SLOTS;
-    while 0 < i {
-        i -= 1;
-        let a = 2 + 6 * i;
+    for i in (0..SLOTS).rev() {
+        let a = 2 + RECORD * i;
         if outdoes(ws, a, b, 0, begin) {
             b = a;
         }
@@ -288,28 +294,6 @@ pub fn place(ws: &[u64; WORDS], t: u64) -> usize
     ensures { result ≡ place_in ws.now t }
 {
     best_place(ws, senders::window(ws[1]), t)
-}
-
-// Whether the record of six words stands before that of six others by the keys that come before the port. Where the
-// others are of a port with a lower number, this is rank order.
-pub fn comes_before(a: &[u64; RECORD], b: &[u64; RECORD]) -> bool
-    ensures { result ≡ above_in a.now b.now }
-{
-    let x = a[5];
-    let y = b[5];
-    if x / 0x10000 != y / 0x10000 {
-        return x / 0x10000 < y / 0x10000;
-    }
-    if a[4] != b[4] {
-        return a[4] < b[4];
-    }
-    if x % 0x10000 != y % 0x10000 {
-        return x % 0x10000 < y % 0x10000;
-    }
-    if a[0] != b[0] {
-        return a[0] < b[0];
-    }
-    a[1] % 0x10000 < b[1] % 0x10000
 }
 
 // The last accepted time.

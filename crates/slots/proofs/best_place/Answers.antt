@@ -27,32 +27,28 @@ turned ws from i b o low high told held =
 
 pub loop-i-init : goal.loop-i-init
 unfolding place_among
-loop-i-init c = (omega arith, refl)
+loop-i-init c = refl
 
 pub outdoes-requires : goal.outdoes-requires
 outdoes-requires c =
     let ws = c.args.ws.now in
-    let bound : c.loop-i.b + 6 ≤ 98 = rw c.loop-i.invariant.1 (among_bound ws 0 c.since-begin.result (16 - c.loop-i.i)) in
+    let bound : c.loop-i.b + 6 ≤ 98 = rw c.loop-i.invariant (among_bound ws 0 c.since-begin.result (16 - c.loop-i.i)) in
     search rules
 
 pub loop-i-preserved-then-outdoes : goal.loop-i-preserved-then-outdoes
-loop-i-preserved-then-outdoes c = (
-  omega arith,
-  rw c.if-outdoes.true at (turned c.args.ws.now c.since-begin.result c.loop-i.i c.loop-i.b _ c.loop-i-test.true c.loop-i.invariant.0 c.outdoes.ensures c.loop-i.invariant.1),
-)
+loop-i-preserved-then-outdoes c =
+    rw c.if-outdoes.true at (turned c.args.ws.now c.since-begin.result c.loop-i.i c.loop-i.b _ c.loop-i-test.true c.loop-i.auto.i c.outdoes.ensures c.loop-i.invariant)
 
 pub loop-i-preserved : goal.loop-i-preserved
-loop-i-preserved c = (
-  omega arith,
-  rw c.if-outdoes.false at (turned c.args.ws.now c.since-begin.result c.loop-i.i c.loop-i.b _ c.loop-i-test.true c.loop-i.invariant.0 c.outdoes.ensures c.loop-i.invariant.1),
-)
+loop-i-preserved c =
+    rw c.if-outdoes.false at (turned c.args.ws.now c.since-begin.result c.loop-i.i c.loop-i.b _ c.loop-i-test.true c.loop-i.auto.i c.outdoes.ensures c.loop-i.invariant)
 
 pub returns : goal.returns
 returns c =
     let g = c.args in
     let ws = g.ws.now in
     let e : 16 - c.loop-i.i ≡ 16 = omega arith in
-    c.loop-i.invariant.1
+    c.loop-i.invariant
     ∙ ap (place_among ws 0 c.since-begin.result) e
     ∙ ap (λ (from : ℕ). place_among ws 0 from 16) c.since-begin.ensures
     ∙ sym (place_since ws g.w g.t 16)
