@@ -58,10 +58,10 @@ pub fn read(s: &[u64; RECORD]) -> Record
 fn pack_id(port: u16, sequence: u16, wrflags: u16, receipts: u16) -> u64
     ensures { result ≡ id_word port sequence wrflags receipts }
 {
-    port as u64
-        + 0x10000 * (sequence as u64)
-        + 0x100000000 * (wrflags as u64)
-        + 0x1000000000000 * (receipts as u64)
+    u64::from(port)
+        + 0x10000 * u64::from(sequence)
+        + 0x100000000 * u64::from(wrflags)
+        + 0x1000000000000 * u64::from(receipts)
 }
 
 // The six words of a record; the last two are handed on as they were read.
@@ -141,7 +141,8 @@ pub fn plan(ws: &[u64; WORDS], t: u64, a: Notice) -> Result<(usize, Record), Ref
 }
 
 // Carries out a plan that puts a record into slot `i`: the record and the time are written. The grandmaster and the word of its
-// quality are handed on by the caller, who reads them where they are kept and not before the slots are searched.
+// quality are handed on by the caller, who reads them where they are kept and not before the slots are searched. The words to write
+// are a slice and no array: tried, but what an array that is cut out of lent words (`as_mut_array`) leaves in them is not known.
 pub fn put(ws: &mut [u64], i: usize, t: u64, r: Record, identity: u64, grade: u64)
     requires ws_len { (length ws.old ≡ port_words) × (i < 16) }
     requires identity_value { (identity ≡ r.notice.grandmaster.identity) × (grade ≡ grade_word r.notice.grandmaster r.notice.steps) }
@@ -261,8 +262,9 @@ fn since(w: u64, t: u64) -> u64
     t.saturating_sub(w)
 }
 
-// Where the record of the best candidate at `t` begins, or 0; from the last slot to the first. A record is qualified at `t`
-// where it is at the begin of the window, by a window of no length: one comparison a slot.
+// Where the record of the best candidate at `t` begins, or 0: a number and no option, since whoever decides keeps eighteen
+// places at hand, a word each. It goes from the last slot to the first. A record is qualified at `t` where it is at the begin
+// of the window, by a window of no length: one comparison a slot.
 fn best_place(ws: &[u64; WORDS], w: u64, t: u64) -> usize
     ensures { result ≡ place_among ws.now w t 16 }
 {
