@@ -64,14 +64,20 @@ fn pack_id(port: u16, sequence: u16, wrflags: u16, receipts: u16) -> u64
         + 0x1000000000000 * u64::from(receipts)
 }
 
-// The six words of a record; the last two are handed on as they were read.
-fn packed(r: Record, identity: u64, grade: u64) -> [u64; RECORD]
-    requires { (identity ≡ r.notice.grandmaster.identity) × (grade ≡ grade_word r.notice.grandmaster r.notice.steps) }
-    ensures { result ≡ six_of r }
+// Puts a record into a slot's six words; the last two are handed on as they were read. Word by word: an array of them, copied in
+// (`copy_from_slice`), makes taking an Announce 17 instructions longer, 173 for 156.
+fn write(s: &mut [u64], r: Record, identity: u64, grade: u64)
+    requires s_len { length s.old ≡ 6 }
+    requires identity_value { (identity ≡ r.notice.grandmaster.identity) × (grade ≡ grade_word r.notice.grandmaster r.notice.steps) }
+    ensures { s.new ≡ six_of r }
 {
     let n = r.notice;
-    let id = pack_id(n.sender.port, n.sequence, n.wrflags, r.receipts);
-    [n.sender.clock, id, r.newest, r.older, identity, grade]
+    s[0] = n.sender.clock;
+    s[1] = pack_id(n.sender.port, n.sequence, n.wrflags, r.receipts);
+    s[2] = r.newest;
+    s[3] = r.older;
+    s[4] = identity;
+    s[5] = grade;
 }
 
 // The sixteen records of a port.
@@ -97,7 +103,7 @@ fn store(ws: &mut [u64], i: usize, r: Record, identity: u64, grade: u64)
     ensures { ws.new ≡ put_slot ws.old i r }
 {
     let b = 2 + RECORD * i;
-    ws[b..b + RECORD].copy_from_slice(&packed(r, identity, grade));
+    write(&mut ws[b..b + RECORD], r, identity, grade);
 }
 
 // The lowest slot whose record is a sender's.

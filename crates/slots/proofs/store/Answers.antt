@@ -10,4 +10,4 @@ unfolding words_of
 returns c =
     let g = c.args in
     let b = 2 + 6 * g.i in
-    back g.ws.now c.copy_from_slice.new.self b 6 ∙ ap (splice g.ws.now b 6) (c.copy_from_slice.ensures.after ∙ c.packed.ensures)
+    back g.ws.now c.write.new.s b 6 ∙ ap (splice g.ws.now b 6) c.write.ensures
