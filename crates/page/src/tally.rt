@@ -1,77 +1,88 @@
-// What became of what each port heard, four counts a port; behind them whom the clock followed at each hour's end.
+// What became of what each port heard, and whom the clock followed at each hour's end.
 ghost use Rattle.std.specs.Prelude.{◌<◌};
 
-use refusal::Refusal;
+use crate::names;
+use refusal::{PORTS, Refusal};
+use std::mem;
 
+// The hours of the day.
+pub(crate) const HOURS: usize = 24;
 
-// The places of a port's counts: Announces taken, refused, the number of the last refusal, and refused in this hour.
-pub const TAKEN: usize = 0;
-
-pub const REFUSED: usize = 1;
-
-pub const LAST: usize = 2;
-
-pub const LATELY: usize = 3;
-
-// What all of it takes.
-pub const COUNTS: usize = 76 + 24;
-
-fn place(port: u8, k: usize) -> usize
-    ensures { result < 76 }
-{
-    (port % 19) as usize * 4 + k % 4
+// A port's Announces: how many were taken and refused, the last refusal, and how many were refused since the hour began; and a letter for each hour.
+#[derive(Clone, Copy)]
+pub struct Heard {
+    pub taken: u64,
+    pub refused: u64,
+    pub last: Option<Refusal>,
+    pub lately: u64,
+    pub letters: [u8; HOURS],
 }
 
-// One of a port's counts.
-pub fn of(tally: &[u64; COUNTS], port: u8, k: usize) -> u64 {
-    let i = place(port, k);
-    tally[i]
-}
-
-// A port's counts, in the order of their places.
-pub fn row(tally: &[u64; COUNTS], port: u8) -> &[u64] {
-    let i = place(port, 0);
-    let all = &tally[..];
-    &all[i..]
-}
-
-fn raise(tally: &mut [u64; COUNTS], port: u8, k: usize) {
-    let i = place(port, k);
-    tally[i] = std::num::wrapping_add_u64(tally[i], 1);
-}
-
-// Notes what became of an Announce on a port.
-pub fn note(tally: &mut [u64; COUNTS], port: u8, x: Result<(), Refusal>) {
-    match x {
-        Ok(()) => raise(tally, port, TAKEN),
-        Err(r) => {
-            let i = place(port, LAST);
-            tally[i] = refusal::number(r);
-            raise(tally, port, REFUSED);
-            raise(tally, port, LATELY);
-        }
+impl Heard {
+    // Whether the port heard anything.
+    pub fn any(&self) -> bool {
+        self.taken != 0 || self.refused != 0
     }
 }
 
-// A new hour begins on a port: how many Announces were refused in the one before.
-pub fn turned(tally: &mut [u64; COUNTS], port: u8) -> u64 {
-    let i = place(port, LATELY);
-    let n = tally[i];
-    tally[i] = 0;
-    n
+pub struct Tally {
+    ports: [Heard; PORTS],
+    leaders: [u64; HOURS],
 }
 
-// Whether a port heard anything.
-pub fn heard(tally: &[u64; COUNTS], port: u8) -> bool {
-    (of(tally, port, TAKEN) != 0) | (of(tally, port, REFUSED) != 0)
+// Where a port of 1 to 18 stands.
+fn index(port: u8) -> usize
+    ensures { result < 18 }
+{
+    port.wrapping_sub(1) as usize % PORTS
 }
 
-// Whom the clock followed at an hour's end.
-pub fn leader(tally: &[u64; COUNTS], h: usize) -> u64 {
-    tally[76 + h % 24]
-}
+impl Tally {
+    // Nothing was heard.
+    pub fn new() -> Tally {
+        let silent = Heard {
+            taken: 0,
+            refused: 0,
+            last: None,
+            lately: 0,
+            letters: [b'-'; HOURS],
+        };
+        Tally {
+            ports: [silent; PORTS],
+            leaders: [0; HOURS],
+        }
+    }
 
-pub fn follow(tally: &mut [u64; COUNTS], h: u64, clock: u64) {
-    let i = 76 + (h % 24) as usize;
-    tally[i] = clock;
+    // What a port heard.
+    pub fn port(&self, port: u8) -> &Heard {
+        &self.ports[index(port)]
+    }
+
+    // Notes what became of an Announce on a port.
+    pub fn note(&mut self, port: u8, x: Result<(), Refusal>) {
+        let heard = &mut self.ports[index(port)];
+        match x {
+            Ok(()) => heard.taken = heard.taken.saturating_add(1),
+            Err(r) => {
+                heard.last = Some(r);
+                heard.refused = heard.refused.saturating_add(1);
+                heard.lately = heard.lately.saturating_add(1);
+            }
+        }
+    }
+
+    // An hour's end: a letter for each port, by its decision, and whom the clock follows.
+    pub fn close(&mut self, decisions: &[u8; PORTS], hour: u64, leader: u64) {
+        let h = (hour % 24) as usize;
+        self.leaders[h] = leader;
+        for (i, code) in decisions.iter().enumerate() {
+            let refused = mem::take(&mut self.ports[i].lately);
+            self.ports[i].letters[h] = names::letter(*code, refused);
+        }
+    }
+
+    // Whom the clock followed at an hour's end.
+    pub fn leader(&self, hour: usize) -> u64 {
+        self.leaders[hour % HOURS]
+    }
 }

@@ -2,22 +2,14 @@
 // A White Rabbit link coming up on the slave's side, as the program `day` tells it: each event is a step of the engine's link, and what it
 // sends is counted. What happens is made up, so there is nothing that a contract could hold it to: its functions are proved to end
 // and to stay in bounds.
-use link::{Event, Link, Sends, Settings, Stepped};
+use link::{Event, Sends, Settings};
+use page::Moment;
 use std::io;
 use std::io::Write;
 use tlv::form::{CALIBRATE, CALIBRATED, LOCK, MODE_ON};
 
 // The nanoseconds of a second.
 const NANOS: u64 = refusal::SECOND_NANOS as u64;
-
-// How a link came up, and the link.
-#[derive(Clone, Copy)]
-struct Rise {
-    link: Link,
-    events: u64,
-    sent: u64,
-    on: bool,
-}
 
 // A port that may be slave and needs calibration.
 fn slave_settings() -> Settings {
@@ -31,19 +23,20 @@ fn slave_settings() -> Settings {
     }
 }
 
-// What happens on the way up, in its order. The parent's part in wrFlags: config in bits 0 and 1, its mode in bit 3.
-fn event(i: u64, flags: u16) -> Event {
-    match i {
-        0 => Event::Start {
+// What happens to a link on the way up to a parent, in its order. The parent's part in wrFlags: config in bits 0 and 1, its mode in bit 3.
+fn way_up(flags: u16) -> [Event; 7] {
+    [
+        Event::Start {
             config: (flags % 4) as u8,
             mode: flags / 8 % 2 == 1,
         },
-        1 => Event::Message(LOCK),
-        3 => Event::Message(CALIBRATE),
-        4 => Event::Message(CALIBRATED),
-        6 => Event::Message(MODE_ON),
-        _ => Event::Done,
-    }
+        Event::Message(LOCK),
+        Event::Done,
+        Event::Message(CALIBRATE),
+        Event::Message(CALIBRATED),
+        Event::Done,
+        Event::Message(MODE_ON),
+    ]
 }
 
 fn messages(s: Sends) -> u64 {
@@ -54,49 +47,18 @@ fn messages(s: Sends) -> u64 {
     }
 }
 
-fn risen(r: Rise, s: Stepped) -> Rise {
-    let link = s.link;
-    let sends = s.sends;
-    Rise {
-        link,
-        events: std::num::wrapping_add_u64(r.events, 1),
-        sent: std::num::wrapping_add_u64(r.sent, messages(sends)),
-        on: s.report,
+// How many messages a fresh link sends on this way, if the last step reports that it is on.
+fn brought_up(way: &[Event]) -> Option<u64> {
+    let mut link = link::fresh();
+    let mut sent: u64 = 0;
+    let mut on = false;
+    for event in way {
+        let step = link::step(slave_settings(), link, *event);
+        link = step.link;
+        sent = sent.saturating_add(messages(step.sends));
+        on = step.report;
     }
-}
-
-// The seven events of a link that comes up to a parent with these wrFlags.
-fn bring_up(flags: u16) -> Rise {
-    let mut r = Rise {
-        link: link::fresh(),
-        events: 0,
-        sent: 0,
-        on: false,
-    };
-    let mut i: u64 = 0;
-    while i < 7 {
-        let l = r.link;
-        r = risen(r, link::step(slave_settings(), l, event(i, flags)));
-        i += 1;
-    }
-    r
-}
-
-// A link brought up at `t`, or not.
-fn told<W: Write>(out: &mut W, port: u8, r: Rise, t: u64) -> io::Result<()> {
-    if r.on {
-        page::tell(
-            out,
-            b"%t  port %d: White Rabbit link on after %d events; messages sent: %d\n",
-            &[t, port as u64, r.events, r.sent],
-        )
-    } else {
-        page::tell(
-            out,
-            b"%t  port %d: White Rabbit link not on\n",
-            &[t, port as u64],
-        )
-    }
+    on.then_some(sent)
 }
 
 // The seconds at which the link to a new parent is brought up.
@@ -104,10 +66,21 @@ const FIRST: u64 = 3600;
 
 const SECOND: u64 = 14 * 3600;
 
-// The link to the parent on `port`, at those seconds.
+// The link to the parent on `port`, at those seconds: whether it was brought up.
 pub fn begun<W: Write>(out: &mut W, port: u8, flags: u16, second: u64) -> io::Result<()> {
-    if (second == FIRST) | (second == SECOND) {
-        told(out, port, bring_up(flags), second % 86_400 * NANOS)?;
+    if second != FIRST && second != SECOND {
+        return Ok(());
     }
-    Ok(())
+    let way = way_up(flags);
+    let t = Moment(second * NANOS);
+    match brought_up(&way) {
+        Some(sent) => {
+            let events = way.len();
+            writeln!(
+                out,
+                "{t}  port {port}: White Rabbit link on after {events} events; messages sent: {sent}"
+            )
+        }
+        None => writeln!(out, "{t}  port {port}: White Rabbit link not on"),
+    }
 }
