@@ -4,15 +4,14 @@
 // is printed, so but for `cards::ranked` its functions have none that fixes an answer: they are proved to end and to stay in
 // bounds, and what they print is compared with a stored page.
 use rank::Candidate;
-use std::io;
-use std::io::Write;
+use std::fmt;
 
 pub mod cards;
 pub mod change;
 pub mod kept;
 pub mod table;
 
-// The parent: a clock, the port that hears it, and its wrFlags; port 0 where our own clock leads.
+// A parent that is another clock than ours: its name, the port that hears it, and its wrFlags.
 #[derive(Clone, Copy)]
 pub struct Parent {
     pub clock: u64,
@@ -22,19 +21,22 @@ pub struct Parent {
 
 // The sender of a candidate as parent.
 pub fn sender_of(c: Candidate) -> Parent {
-    let sender = c.sender;
     Parent {
-        clock: sender.clock,
+        clock: c.sender.clock,
         port: c.port,
         flags: c.wrflags,
     }
 }
 
-// A parent by its name.
-pub fn named<W: Write>(out: &mut W, p: Parent) -> io::Result<()> {
-    if p.port == 0 {
-        page::say(out, b"our own clock")
-    } else {
-        page::tell(out, b"%x on port %d", &[p.clock, p.port as u64])
+// The parent by its name, or none where our own clock leads.
+#[derive(Clone, Copy)]
+pub struct Named(pub Option<Parent>);
+
+impl fmt::Display for Named {
+    fn fmt<W: fmt::Write>(&self, f: &mut fmt::Formatter<W>) -> fmt::Result {
+        match self.0 {
+            Some(p) => write!(f, "{:016x} on port {}", p.clock, p.port),
+            None => write!(f, "our own clock"),
+        }
     }
 }

@@ -1,38 +1,12 @@
 // The table of the ports at the day's end, and what each card ranks.
-use refusal::Refusal;
-use crate::{Parent, cards, kept};
-use page::tally;
-use page::tally::COUNTS;
-use rank::{Candidate, Ranked};
+use crate::{Named, Parent, cards, kept};
+use page::Tally;
+use rank::Ranked;
 use std::io;
 use std::io::Write;
 
 // A port's line: the decision, the sender, grandmaster and steps of its best, dashes where it has none, and how many records are
 // live.
-fn line_told<W: Write>(out: &mut W, port: u8, code: u8, best: Result<Option<Candidate>, Refusal>, live: u64) -> io::Result<()> {
-    let Ok(Some(c)) = best else {
-        return page::tell(
-            out,
-            b"%4  %c        -                 -                     -%6/16\n",
-            &[port as u64, code as u64, live],
-        );
-    };
-    let sender = c.sender;
-    let grandmaster = c.grandmaster;
-    page::tell(
-        out,
-        b"%4  %c        %x  %x%7%6/16\n",
-        &[
-            port as u64,
-            code as u64,
-            sender.clock,
-            grandmaster.identity,
-            c.steps as u64,
-            live,
-        ],
-    )
-}
-
 fn port_told<W: Write>(
     out: &mut W,
     words: &[u64; ports::WORDS],
@@ -40,34 +14,29 @@ fn port_told<W: Write>(
     code: u8,
     t: u64,
 ) -> io::Result<()> {
-    let n = kept::kept(words, port, t);
-    line_told(out, port, code, ports::asking::best(words, port, t), n.live)
+    write!(out, " {port:3}  {}        ", page::decision(code))?;
+    if let Ok(Some(c)) = ports::asking::best(words, port, t) {
+        let sender = c.sender.clock;
+        let grandmaster = c.grandmaster.identity;
+        write!(out, "{sender:016x}  {grandmaster:016x} {:6}", c.steps)?;
+    } else {
+        write!(out, "-                 -                     -")?;
+    }
+    writeln!(out, " {:5}/16", kept::kept(words, port, t).live)
 }
 
 // The lines of the ports that heard anything, at `t`.
 fn ports_told<W: Write>(
     out: &mut W,
     words: &[u64; ports::WORDS],
-    counts: &[u64; COUNTS],
-    now: &[u8; refusal::PORTS],
+    tally: &Tally,
+    decisions: &[u8; refusal::PORTS],
     t: u64,
 ) -> io::Result<()> {
-    let mut i: u8 = 0;
-    while i < 18 {
-        if tally::heard(counts, i + 1) {
-            port_told(out, words, i + 1, now[i as usize], t)?;
+    for port in 1..=18 {
+        if tally.port(port).any() {
+            port_told(out, words, port, decisions[port as usize - 1], t)?;
         }
-        i += 1;
-    }
-    Ok(())
-}
-
-// One of a list, if it is that long.
-fn listed<W: Write>(out: &mut W, list: Ranked, i: usize) -> io::Result<()> {
-    if i < list.len {
-        let c = list.slots[i % 4];
-        let sender = c.sender;
-        page::tell(out, b"  %x on %d", &[sender.clock, c.port as u64])?;
     }
     Ok(())
 }
@@ -75,42 +44,26 @@ fn listed<W: Write>(out: &mut W, list: Ranked, i: usize) -> io::Result<()> {
 // A ranked list, in its order.
 fn list_told<W: Write>(out: &mut W, list: Ranked) -> io::Result<()> {
     if list.len == 0 {
-        page::say(out, b"  nothing")?;
+        write!(out, "  nothing")?;
     }
-    listed(out, list, 0)?;
-    listed(out, list, 1)?;
-    listed(out, list, 2)?;
-    listed(out, list, 3)?;
-    page::say(out, b"\n")
-}
-
-// What a card's ports hear, ranked.
-fn card_told<W: Write>(
-    out: &mut W,
-    words: &[u64; ports::WORDS],
-    card: u8,
-    t: u64,
-) -> io::Result<()> {
-    let from = cards::first(card) as u64;
-    page::tell(out, b"  ports%3 to%3", &[from, from + 5])?;
-    list_told(out, cards::list(words, card, t))
-}
-
-// What each card hears.
-fn each_told<W: Write>(out: &mut W, words: &[u64; ports::WORDS], t: u64) -> io::Result<()> {
-    card_told(out, words, 0, t)?;
-    card_told(out, words, 1, t)?;
-    card_told(out, words, 2, t)
+    for c in list.slots.iter().take(list.len) {
+        write!(out, "  {:016x} on {}", c.sender.clock, c.port)?;
+    }
+    writeln!(out)
 }
 
 // What each card hears, and all of them merged.
 fn cards_told<W: Write>(out: &mut W, words: &[u64; ports::WORDS], t: u64) -> io::Result<()> {
-    page::say(
+    writeln!(
         out,
-        b"\nwhat each card ranked of its own six ports, best first, and the three lists merged\n",
+        "\nwhat each card ranked of its own six ports, best first, and the three lists merged"
     )?;
-    each_told(out, words, t)?;
-    page::say(out, b"  merged        ")?;
+    for card in 0..3 {
+        let from = cards::first(card);
+        write!(out, "  ports {from:2} to {:2}", from + 5)?;
+        list_told(out, cards::list(words, card, t))?;
+    }
+    write!(out, "  merged        ")?;
     list_told(out, cards::all(words, t))
 }
 
@@ -118,24 +71,22 @@ fn cards_told<W: Write>(out: &mut W, words: &[u64; ports::WORDS], t: u64) -> io:
 pub fn told<W: Write>(
     out: &mut W,
     words: &[u64; ports::WORDS],
-    counts: &[u64; COUNTS],
-    now: &[u8; refusal::PORTS],
+    tally: &Tally,
+    decisions: &[u8; refusal::PORTS],
     t: u64,
-    p: Parent,
+    p: Option<Parent>,
 ) -> io::Result<()> {
-    page::say(
+    writeln!(
         out,
-        b"\nport  decision  best sender       grandmaster       steps  records\n",
+        "\nport  decision  best sender       grandmaster       steps  records"
     )?;
-    ports_told(out, words, counts, now, t)?;
+    ports_told(out, words, tally, decisions, t)?;
     page::decisions_explained(out)?;
-    page::tell(
+    let distant = senders::DISTANT;
+    writeln!(
         out,
-        b"no best: no live record was heard twice in its window at fewer than %d steps\n",
-        &[senders::DISTANT as u64],
+        "no best: no live record was heard twice in its window at fewer than {distant} steps"
     )?;
     cards_told(out, words, t)?;
-    page::say(out, b"parent: ")?;
-    crate::named(out, p)?;
-    page::say(out, b"\n")
+    writeln!(out, "parent: {}", Named(p))
 }

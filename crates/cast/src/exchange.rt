@@ -1,11 +1,10 @@
 // The exchange of the slave port once an hour: Sync and Follow_Up out of which the engine takes the origin time, a
 // Delay_Req and its answer, and what they give. What the fibre and our oscillator do is made up; the delay and the offset
 // are the engine's.
-use refusal::Refusal;
-use crate::{MAGIC, OURS, sender, written};
+use crate::{MAGIC, sender};
 use delay::{Asymmetry, Corrections, Exchange, FineStamp, Latencies, Offset, ScaledNs, ScaledPs, Stamp, Stamps};
-use page::tally;
-use page::tally::COUNTS;
+use page::{Nanoseconds, Refused, Tally};
+use refusal::Refusal;
 use std::io;
 use std::io::Write;
 
@@ -44,18 +43,18 @@ const LATENCY: u64 = 1000 * SCALE;
 fn shown(scaled: u64, hour: u64) -> u64 {
     let h = hour % 24;
     if h < 13 {
-        std::num::wrapping_add_u64(scaled, 800 * SCALE >> h)
+        scaled.wrapping_add(800 * SCALE >> h)
     } else {
-        std::num::wrapping_sub_u64(scaled, 40 * SCALE >> (h - 13))
+        scaled.wrapping_sub(40 * SCALE >> (h - 13))
     }
 }
 
 // A Sync or a Follow_Up of a master, 44 octets, by what it begins with and by what stands behind its sender: controlField, logMessageInterval
 // and the seconds of its timestamp.
-fn stamped(begin: u64, master: u64, sequence: u16, behind: u64) -> [u8; 80] {
+fn stamped(begin: u64, master: u64, sequence: u16, behind: u64) -> [[u8; 8]; 10] {
     let half = master / 0x1_0000_0000;
     let rest = sender(master, sequence);
-    written([begin, 0, half, rest, behind, 0, 0, 0, 0, 0])
+    [begin, 0, half, rest, behind, 0, 0, 0, 0, 0].map(u64::to_be_bytes)
 }
 
 // t1 of the hour, from the Follow_Up of a two-step Sync, whose own timestamp is 0.
@@ -64,7 +63,7 @@ fn origin_time(master: u64, h: u64) -> Stamp {
     let precise = 0x0201_0000_0000_0000 + h % 24 * 3600;
     let sync = stamped(0x0002_002c_0000_0200, master, n, 0x0001_0000_0000_0000);
     let follow = stamped(0x0802_002c_0000_0000, master, n, precise);
-    let part = origin::origin(&sync, &follow, MAGIC);
+    let part = origin::origin(sync.as_flattened(), follow.as_flattened(), MAGIC);
     Stamp {
         seconds: octets::u48_at(part, 0),
         nanos: octets::u32_at(part, 6),
@@ -115,74 +114,56 @@ fn measured(master: u64, h: u64) -> Result<(ScaledNs, Offset), Refusal> {
 }
 
 // A second in nanoseconds times 2^16.
-const SECOND: u64 = NANOS * SCALE;
+const SECOND: i64 = (NANOS * SCALE) as i64;
 
-// An offset below a second, ahead or behind, in nanoseconds times 2^16, in two's complement; a longer one is not told.
-fn near(x: Offset) -> u64 {
-    if x.seconds == 0 {
-        return x.rest;
-    }
-    if x.seconds == -1 {
-        std::num::wrapping_sub_u64(x.rest, SECOND)
-    } else {
-        page::NONE
-    }
+// An offset below a second, ahead or behind, in nanoseconds times 2^16; a longer one is not told.
+fn near(x: Offset) -> Nanoseconds {
+    let rest = x.rest.cast_signed();
+    Nanoseconds(match x.seconds {
+        0 => Some(rest),
+        -1 => Some(rest.wrapping_sub(SECOND)),
+        _ => None,
+    })
 }
 
-fn offset_of(m: Result<(ScaledNs, Offset), Refusal>) -> u64 {
-    match m {
-        Ok((_, x)) => near(x),
-        Err(_) => page::NONE,
-    }
-}
-
-// The offset at an hour's end from the clock that was followed.
-fn offset_at(counts: &[u64; COUNTS], h: usize) -> u64 {
-    let leader = tally::leader(counts, h);
-    if leader == OURS {
-        page::NONE
-    } else {
-        offset_of(measured(leader, h as u64))
+// The offset at an hour's end from the clock that was followed, if one was.
+fn offset_at(tally: &Tally, hour: u64) -> Nanoseconds {
+    let measured = tally.leader(hour).map(|master| measured(master, hour));
+    match measured {
+        Some(Ok((_, x))) => near(x),
+        _ => Nanoseconds(None),
     }
 }
 
 // Six hours of offsets a line.
-fn offsets_told<W: Write>(out: &mut W, counts: &[u64; COUNTS]) -> io::Result<()> {
-    let mut offsets = [0u64; 24];
-    let mut h: usize = 0;
-    while h < 24 {
-        offsets[h] = offset_at(counts, h);
-        h += 1;
+fn offsets_told<W: Write>(out: &mut W, tally: &Tally) -> io::Result<()> {
+    write!(out, "\noffset from the parent at each hour's end, ns")?;
+    for hour in 0..24 {
+        if hour % 6 == 0 {
+            write!(out, "\n  {hour:02}")?;
+        }
+        write!(out, " {:9}", offset_at(tally, hour))?;
     }
-    page::tell(
-        out,
-        b"
-offset from the parent at each hour's end, ns
-  00%o%o%o%o%o%o
-  06%o%o%o%o%o%o
-  12%o%o%o%o%o%o
-  18%o%o%o%o%o%o
-",
-        &offsets,
-    )
+    writeln!(out)
 }
 
 // The day's last delay and offset, in a line.
-fn last_told<W: Write>(out: &mut W, m: Result<(ScaledNs, Offset), Refusal>) -> io::Result<()> {
-    match m {
-        Ok((d, x)) => page::tell(
+fn last_told<W: Write>(out: &mut W, master: u64) -> io::Result<()> {
+    match measured(master, 23) {
+        Ok((d, x)) => writeln!(
             out,
-            b"delay%s ns, offset%s ns\n",
-            &[octets::bits64(d.0), near(x)],
+            "delay {} ns, offset {} ns",
+            Nanoseconds(Some(d.0)),
+            near(x)
         ),
-        Err(x) => page::tell(out, b"refused: %n\n", &[refusal::number(x)]),
+        Err(x) => writeln!(out, "refused: {}", Refused(x)),
     }
 }
 
-// The day's last delay and offset from the parent, and the offsets of all hours.
-pub fn told<W: Write>(out: &mut W, counts: &[u64; COUNTS], parent: u64) -> io::Result<()> {
-    if parent != OURS {
-        last_told(out, measured(parent, 23))?;
+// The day's last delay and offset from the parent, if there is one, and the offsets of all hours.
+pub fn told<W: Write>(out: &mut W, tally: &Tally, parent: Option<u64>) -> io::Result<()> {
+    if let Some(master) = parent {
+        last_told(out, master)?;
     }
-    offsets_told(out, counts)
+    offsets_told(out, tally)
 }

@@ -25,9 +25,10 @@ impl Heard {
     }
 }
 
+#[derive(Drop)]
 pub struct Tally {
     ports: [Heard; PORTS],
-    leaders: [u64; HOURS],
+    leaders: [Option<u64>; HOURS],
 }
 
 // Where a port of 1 to 18 stands.
@@ -49,7 +50,7 @@ impl Tally {
         };
         Tally {
             ports: [silent; PORTS],
-            leaders: [0; HOURS],
+            leaders: [None; HOURS],
         }
     }
 
@@ -72,7 +73,7 @@ impl Tally {
     }
 
     // An hour's end: a letter for each port, by its decision, and whom the clock follows.
-    pub fn close(&mut self, decisions: &[u8; PORTS], hour: u64, leader: u64) {
+    pub fn close(&mut self, decisions: &[u8; PORTS], hour: u64, leader: Option<u64>) {
         let h = (hour % 24) as usize;
         self.leaders[h] = leader;
         for (i, code) in decisions.iter().enumerate() {
@@ -81,8 +82,8 @@ impl Tally {
         }
     }
 
-    // Whom the clock followed at an hour's end.
-    pub fn leader(&self, hour: usize) -> u64 {
-        self.leaders[hour % HOURS]
+    // Whom the clock followed at an hour's end; none where it led itself.
+    pub fn leader(&self, hour: u64) -> Option<u64> {
+        self.leaders[(hour % 24) as usize]
     }
 }

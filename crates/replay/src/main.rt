@@ -33,25 +33,30 @@ fn own() -> Grandmaster {
     }
 }
 
-// What standard input brought next: its end, a block that was replayed, or one that is refused.
-#[derive(Clone, Copy)]
-enum Came {
-    End,
-    Block,
-    Wrong,
+// Why a trace is not replayed to its end: standard input cannot be read, or a block is refused.
+#[derive(Drop)]
+enum Fault {
+    Read(io::Error),
+    Refused(Refusal),
+}
+
+impl From<io::Error> for Fault {
+    fn from(e: io::Error) -> Fault {
+        Fault::Read(e)
+    }
+}
+
+impl From<Refusal> for Fault {
+    fn from(r: Refusal) -> Fault {
+        Fault::Refused(r)
+    }
 }
 
 // A trace has no more blocks than there are numbers for them, and one turn more finds its end.
 const TURNS: u64 = 4_294_967_296 + 1;
 
-fn told_by(x: Result<(), Refusal>) -> Came {
-    match x {
-        Ok(()) => Came::Block,
-        Err(_) => Came::Wrong,
-    }
-}
-
 // Reads until the space is full or the input ends: how many octets it put at the start of the space.
+// The loop counts by hand: a read brings as many octets as it likes, and `read_exact` does not say how many came before the end.
 fn read_full<I: Read>(input: &mut I, space: &mut [u8]) -> io::Result<usize>
     ensures { IfOk result (λ n. n ≤ length space.new) }
 {
@@ -66,68 +71,19 @@ fn read_full<I: Read>(input: &mut I, space: &mut [u8]) -> io::Result<usize>
     Ok(done)
 }
 
-// Reads a block and replays it.
-fn next<I: Read>(
-    input: &mut I,
-    words: &mut [u64; ports::WORDS],
-    reader: &mut [u64; playback::READER],
-) -> io::Result<Came> {
-    let mut space = [0u8; block::OCTETS];
-    let n = read_full(input, &mut space)?;
-    if n == 0 {
-        return Ok(Came::End);
-    }
-    Ok(told_by(playback::replay_block(words, reader, &space[..n], settings())))
-}
-
-// Replays all blocks: whether none is refused.
+// Reads all blocks and replays them, up to one that is refused.
 fn replayed<I: Read>(
     input: &mut I,
     words: &mut [u64; ports::WORDS],
     reader: &mut [u64; playback::READER],
-) -> io::Result<bool> {
-    let mut left: u64 = TURNS;
-    while left > 0 {
-        match next(input, words, reader)? {
-            Came::End => return Ok(true),
-            Came::Block => {}
-            Came::Wrong => return Ok(false),
-        }
-        left -= 1;
-    }
-    Ok(true)
-}
-
-// Reads a block and looks away: whether standard input has ended.
-fn is_over<I: Read>(input: &mut I) -> io::Result<bool> {
+) -> Result<(), Fault> {
     let mut space = [0u8; block::OCTETS];
-    let n = read_full(input, &mut space)?;
-    Ok(n == 0)
-}
-
-// Reads what is left of standard input, so that whoever writes it can go on to its end.
-fn pass_over<I: Read>(input: &mut I) -> io::Result<()> {
-    let mut left: u64 = 0xffff_ffff_ffff_ffff;
-    while left > 0 {
-        if is_over(input)? {
+    for _ in 0..TURNS {
+        let n = read_full(input, &mut space)?;
+        if n == 0 {
             return Ok(());
         }
-        left -= 1;
-    }
-    Ok(())
-}
-
-// A port and its decision.
-fn line<W: Write>(out: &mut W, port: u8, decision: u8) -> io::Result<()> {
-    page::tell(out, b"%d %c\n", &[port as u64, decision as u64])
-}
-
-// The same of every port.
-fn lines<W: Write>(out: &mut W, decisions: &[u8; refusal::PORTS]) -> io::Result<()> {
-    let mut i: u8 = 0;
-    while i < 18 {
-        line(out, i + 1, decisions[i as usize])?;
-        i += 1;
+        playback::replay_block(words, reader, &space[..n], settings())?;
     }
     Ok(())
 }
@@ -136,7 +92,10 @@ fn lines<W: Write>(out: &mut W, decisions: &[u8; refusal::PORTS]) -> io::Result<
 fn told<W: Write>(out: &mut W, words: &[u64; ports::WORDS], t: u64) -> io::Result<()> {
     let mut decisions = [0u8; refusal::PORTS];
     election::decide_all(words, own(), t, &mut decisions);
-    lines(out, &decisions)
+    for (port, code) in (1..=18).zip(decisions) {
+        writeln!(out, "{port} {}", page::decision(code))?;
+    }
+    Ok(())
 }
 
 fn main(rt: HostRuntime) -> io::Result<()> {
@@ -144,11 +103,14 @@ fn main(rt: HostRuntime) -> io::Result<()> {
     let mut out = BufWriter::new(rt.alloc(), io::writer(&rt))?;
     let mut words = [0u64; ports::WORDS];
     let mut reader = [0u64; playback::READER];
-    if replayed(&mut input, &mut words, &mut reader)? {
-        told(&mut out, &words, reader[1])?;
-    } else {
-        pass_over(&mut input)?;
-        page::say(&mut out, b"refused 20\n")?;
+    match replayed(&mut input, &mut words, &mut reader) {
+        Ok(()) => told(&mut out, &words, reader[1])?,
+        Err(Fault::Read(e)) => return Err(e),
+        Err(Fault::Refused(r)) => {
+            // whoever writes the trace can go on to its end
+            io::copy(&mut input, &mut io::sink())?;
+            writeln!(out, "refused {}", refusal::number(r))?;
+        }
     }
     out.flush()
 }
