@@ -23,7 +23,9 @@ pub fn kept(words: &[u64; ports::WORDS], port: u8, t: u64) -> Records {
     let records = || (0..SLOTS).filter_map(|slot| seen(words, port, slot));
     Records {
         live: records().filter(|r| senders::is_live(*r, w, t)).count(),
-        candidates: records().filter(|r| senders::is_qualified(*r, w, t)).count(),
+        candidates: records()
+            .filter(|r| senders::is_qualified(*r, w, t))
+            .count(),
     }
 }
 

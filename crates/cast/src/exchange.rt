@@ -2,7 +2,10 @@
 // Delay_Req and its answer, and what they give. What the fibre and our oscillator do is made up; the delay and the offset
 // are the engine's.
 use crate::{MAGIC, sender};
-use delay::{Asymmetry, Corrections, Exchange, FineStamp, Latencies, Offset, ScaledNs, ScaledPs, Stamp, Stamps};
+use delay::{
+    Asymmetry, Corrections, Exchange, FineStamp, Latencies, Offset, ScaledNs, ScaledPs, Stamp,
+    Stamps,
+};
 use page::{Nanoseconds, Refused, Tally};
 use refusal::Refusal;
 use std::io;

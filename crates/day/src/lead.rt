@@ -6,7 +6,9 @@ use std::io::Write;
 
 // The parent by a ranked list; none where our own clock leads.
 fn led_by(list: Ranked, own: Grandmaster) -> Option<Parent> {
-    election::parent(own, list).unwrap_or(None).map(board::sender_of)
+    election::parent(own, list)
+        .unwrap_or(None)
+        .map(board::sender_of)
 }
 
 // The parent at `t`, from the cards' merged lists.

@@ -32,7 +32,9 @@ fn closed<F: Write>(clock: &mut Clock<F>, second: u64, p: Option<Parent>) {
     let mut decisions = [0u8; refusal::PORTS];
     let t = cast::instant(second + 1);
     election::decide_all(&clock.words, cast::own(), t, &mut decisions);
-    clock.tally.close(&decisions, second / 3600, p.map(|p| p.clock));
+    clock
+        .tally
+        .close(&decisions, second / 3600, p.map(|p| p.clock));
 }
 
 // All beats and hours.

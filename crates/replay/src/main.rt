@@ -6,9 +6,9 @@
 // without a better source.
 ghost use Rattle.std.specs.Prelude.{◌≤◌, length, IfOk};
 
-use refusal::Refusal;
 use ports::intake::Settings;
 use rank::Grandmaster;
+use refusal::Refusal;
 use std::io;
 use std::io::{BufReader, BufWriter, Read, Write};
 
