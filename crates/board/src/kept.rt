@@ -32,7 +32,7 @@ pub fn kept(words: &[u64; ports::WORDS], port: u8, t: u64) -> Records {
 // A port's window in nanoseconds.
 pub fn window(words: &[u64; ports::WORDS], port: u8) -> u64 {
     match ports::asking::port_status(words, port) {
-        Ok((_, k)) => senders::window(octets::bits8(k) as u64),
+        Ok((_, k)) => senders::window(u64::from(k.cast_unsigned())),
         Err(_) => 0,
     }
 }

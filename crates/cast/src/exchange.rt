@@ -55,7 +55,7 @@ fn shown(scaled: u64, hour: u64) -> u64 {
 // A Sync or a Follow_Up of a master, 44 octets, by what it begins with and by what stands behind its sender: controlField, logMessageInterval
 // and the seconds of its timestamp.
 fn stamped(begin: u64, master: u64, sequence: u16, behind: u64) -> [[u8; 8]; 10] {
-    let half = master / 0x1_0000_0000;
+    let half = master >> 32;
     let rest = sender(master, sequence);
     [begin, 0, half, rest, behind, 0, 0, 0, 0, 0].map(u64::to_be_bytes)
 }
@@ -131,8 +131,7 @@ fn near(x: Offset) -> Nanoseconds {
 
 // The offset at an hour's end from the clock that was followed, if one was.
 fn offset_at(tally: &Tally, hour: u64) -> Nanoseconds {
-    let measured = tally.leader(hour).map(|master| measured(master, hour));
-    match measured {
+    match tally.leader(hour).map(|master| measured(master, hour)) {
         Some(Ok((_, x))) => near(x),
         _ => Nanoseconds(None),
     }

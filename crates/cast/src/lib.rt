@@ -3,7 +3,7 @@
 // with endless new names, and two clocks of a tenant that follow each other. Their messages are made here as they stand on the wire, one by one;
 // each is recorded, and the clock takes it from the octets. Beside it the slave port's exchange. All of it is made up, so there is nothing that a
 // contract could hold it to: its functions are proved to end and to stay in bounds.
-ghost use Rattle.std.specs.Prelude.{◌≤◌, ◌<◌};
+ghost use Rattle.std.specs.Prelude.{◌≤◌, ◌<◌, ◌^◌};
 
 use page::{Moment, Refused, Tally};
 use ports::intake::Settings;
@@ -102,11 +102,13 @@ pub fn own() -> Grandmaster {
 }
 
 // Class, accuracy, variance and priority2 in five octets: those of a clock on satellite time, or of one that runs free.
-fn grade(priority2: u8) -> u64 {
+fn grade(priority2: u8) -> u64
+    ensures { result < 2 ^ 40 }
+{
     if priority2 == FREE {
         0xf8_fe_ffff_80
     } else {
-        0x06_21_4e5d_00 + priority2 as u64
+        0x06_21_4e5d_00 | u64::from(priority2)
     }
 }
 
@@ -145,25 +147,23 @@ fn leading(clock: u64, port: u8, priority2: u8) -> Speaker {
 // A message is made of numbers of eight octets each: type, length, domain and flags; the correction; the first half of the sender's clock;
 // the second half with its port 1 and the sequenceId, which this is; then controlField, logMessageInterval and the body.
 fn sender(clock: u64, sequence: u16) -> u64 {
-    clock % 0x1_0000_0000 * 0x1_0000_0000 + 0x1_0000 + sequence as u64
+    (clock & 0xffff_ffff) << 32 | 0x1_0000 | u64::from(sequence)
 }
 
 impl Said {
     // The octets of the Announce: currentUtcOffset 37, priority1 128, timeSource 0x20. Behind its 64 octets stands a White Rabbit
-    // suffix: type 3 with 10 octets, the OUI and MAGIC, version 1, 0x2000, and as wrFlags config 1, calibrated. What is added up is kept
-    // within its octets by a remainder, so that no sum can wrap.
+    // suffix: type 3 with 10 octets, the OUI and MAGIC, version 1, 0x2000, and as wrFlags config 1, calibrated.
     fn octets(self) -> [[u8; 8]; 10] {
         let by = self.by;
         let eights: [u64; 10] = [
-            0x0b02_0000_0000_0008 + self.length() as u64 * 0x1_0000_0000,
+            0x0b02_0000_0000_0008 | (self.length() as u64) << 32,
             0,
-            by.clock / 0x1_0000_0000,
+            by.clock >> 32,
             sender(by.clock, self.sequence),
             0x0501_0000_0000_0000,
             0x0000_0000_0025_0080,
-            grade(by.priority2) % 0x100_0000_0000 * 0x100_0000
-                + by.identity / 0x100_0000_0000 % 0x100_0000,
-            by.identity % 0x100_0000_0000 * 0x100_0000 + by.steps as u64 * 256 + 0x20,
+            grade(by.priority2) << 24 | by.identity >> 40,
+            (by.identity & 0xff_ffff_ffff) << 24 | u64::from(by.steps) << 8 | 0x20,
             0x0003_000a_0800_30ab,
             0xcd01_2000_0005_0000,
         ];
