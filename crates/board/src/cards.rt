@@ -2,6 +2,7 @@
 ghost use Rattle.std.specs.Prelude.{◌≡◌, ◌≤◌, take};
 ghost use Rattle.rank.specs.Calls.{ranking_of};
 
+use crate::Now;
 use rank::{Candidate, Ranked, Ranking};
 use senders::SLOTS;
 
@@ -32,8 +33,8 @@ pub fn first(card: u8) -> u8
     card % 3 * PORTS + 1
 }
 
-// What the ports of a card hear at `t`.
-fn run(words: &[u64; ports::WORDS], card: u8, t: u64) -> Heard
+// What the ports of a card hear.
+fn run(now: Now<'_>, card: u8) -> Heard
     ensures { result.n ≤ 96 }
 {
     // what stands in an unused slot of a ranked list fills the room that is not taken
@@ -42,7 +43,7 @@ fn run(words: &[u64; ports::WORDS], card: u8, t: u64) -> Heard
     let from = first(card);
     for i in 0..MOST {
         let port = from + (i / SLOTS) as u8;
-        if let Ok(Some(c)) = ports::asking::candidate(words, port, i % SLOTS, t) {
+        if let Ok(Some(c)) = ports::asking::candidate(now.words, port, i % SLOTS, now.t) {
             held[n] = c;
             n += 1;
         }
@@ -50,14 +51,16 @@ fn run(words: &[u64; ports::WORDS], card: u8, t: u64) -> Heard
     Heard { n, held }
 }
 
-// A card's ranked list.
-pub fn list(words: &[u64; ports::WORDS], card: u8, t: u64) -> Ranked {
-    let Heard { n, held } = run(words, card, t);
-    ranked(held, n).list
-}
+impl Now<'_> {
+    // A card's ranked list.
+    pub fn list(self, card: u8) -> Ranked {
+        let Heard { n, held } = run(self, card);
+        ranked(held, n).list
+    }
 
-// The ranked list of all cards.
-pub fn all(words: &[u64; ports::WORDS], t: u64) -> Ranked {
-    let lower = rank::merge(list(words, 0, t), list(words, 1, t)).list;
-    rank::merge(lower, list(words, 2, t)).list
+    // The ranked list of all cards.
+    pub fn merged(self) -> Ranked {
+        let lower = rank::merge(self.list(0), self.list(1)).list;
+        rank::merge(lower, self.list(2)).list
+    }
 }

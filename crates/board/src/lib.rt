@@ -6,10 +6,17 @@
 use rank::Candidate;
 use std::fmt;
 
-pub mod cards;
-pub mod change;
-pub mod kept;
-pub mod table;
+mod cards;
+mod change;
+mod kept;
+mod table;
+
+// The clock's ports at a time: everything that the day tells of them is asked of this.
+#[derive(Clone, Copy)]
+pub struct Now<'a> {
+    pub words: &'a [u64; ports::WORDS],
+    pub t: u64,
+}
 
 // A parent that is another clock than ours: its name, the port that hears it, and its wrFlags.
 #[derive(Clone, Copy)]

@@ -1,26 +1,32 @@
 // Who the parent is: by the cards' merged lists, or by the ports' bests; and a change of it.
-use board::Parent;
-use rank::{Grandmaster, Ranked};
+use board::{Now, Parent};
+use rank::Ranked;
 use std::io;
 use std::io::Write;
 
+// What every port is to do, and the ranked list of them all.
+pub fn decided(now: Now<'_>) -> ([u8; refusal::PORTS], Ranked) {
+    let mut decisions = [0u8; refusal::PORTS];
+    let elected = election::decide_all(now.words, cast::own(), now.t, &mut decisions);
+    (decisions, elected.list)
+}
+
 // The parent by a ranked list; none where our own clock leads.
-fn led_by(list: Ranked, own: Grandmaster) -> Option<Parent> {
-    election::parent(own, list)
+fn led_by(list: Ranked) -> Option<Parent> {
+    election::parent(cast::own(), list)
         .unwrap_or(None)
         .map(board::sender_of)
 }
 
-// The parent at `t`, from the cards' merged lists.
-pub fn by_cards(words: &[u64; ports::WORDS], t: u64, own: Grandmaster) -> Option<Parent> {
-    led_by(board::cards::all(words, t), own)
+// The parent from the cards' merged lists.
+pub fn by_cards(now: Now<'_>) -> Option<Parent> {
+    led_by(now.merged())
 }
 
 // The same, from the ports' bests, which is faster.
-fn by_ports(words: &[u64; ports::WORDS], t: u64, own: Grandmaster) -> Option<Parent> {
-    let mut decisions = [0u8; refusal::PORTS];
-    let elected = election::decide_all(words, own, t, &mut decisions);
-    led_by(elected.list, own)
+fn by_ports(now: Now<'_>) -> Option<Parent> {
+    let (_, list) = decided(now);
+    led_by(list)
 }
 
 // What tells one parent from another.
@@ -28,17 +34,15 @@ fn name(p: Option<Parent>) -> Option<(u64, u8)> {
     p.map(|p| (p.clock, p.port))
 }
 
-// The parent at `t`; where it is another than before, the page says why.
+// The parent; where it is another than before, the page says why.
 pub fn watched<W: Write>(
     out: &mut W,
-    words: &[u64; ports::WORDS],
+    now: Now<'_>,
     old: Option<Parent>,
-    t: u64,
-    own: Grandmaster,
 ) -> io::Result<Option<Parent>> {
-    let new = by_ports(words, t, own);
+    let new = by_ports(now);
     if name(new) != name(old) {
-        board::change::told(out, words, old, new, t, own)?;
+        now.change_told(out, old, new, cast::own())?;
     }
     Ok(new)
 }

@@ -2,12 +2,20 @@
 // A day on eighteen ports: two masters, a boundary clock, a tenant's own clock, a cable that loops, two floods of ten thousand
 // names, White Rabbit links that come up, a master that falls silent, its echo in a tenant's loop, and the one that takes over. What is announced is made
 // up; every decision, count, delay and offset comes from the proved engine.
-use board::Parent;
+use board::{Now, Parent};
 use cast::{BEAT, Clock};
 use std::io;
 use std::io::{BufWriter, Write};
 
 mod lead;
+
+// A clock's ports at a second.
+fn at<F>(clock: &Clock<F>, second: u64) -> Now<'_> {
+    Now {
+        words: &clock.words,
+        t: cast::instant(second),
+    }
+}
 
 // The beat of a second: a link may begin, who is there speaks, the parent is asked for, and the tenants do what they do.
 fn beat<W: Write, F: Write>(
@@ -20,31 +28,28 @@ fn beat<W: Write, F: Write>(
         rise::begun(out, p.port, p.flags, second)?;
     }
     clock.beat(second)?;
-    let new = lead::watched(out, &clock.words, old, cast::instant(second), cast::own())?;
+    let new = lead::watched(out, at(clock, second), old)?;
     if let Some(port) = clock.tenants(out, second)? {
-        board::kept::meanwhile(out, &clock.words, port, cast::flood_end(second), new)?;
+        let now = Now {
+            words: &clock.words,
+            t: cast::flood_end(second),
+        };
+        now.meanwhile(out, port, new)?;
     }
     Ok(new)
 }
 
-// The end of an hour, a second after its last beat: the letters of the ports, and whom the clock follows.
-fn closed<F: Write>(clock: &mut Clock<F>, second: u64, p: Option<Parent>) {
-    let mut decisions = [0u8; refusal::PORTS];
-    let t = cast::instant(second + 1);
-    election::decide_all(&clock.words, cast::own(), t, &mut decisions);
-    clock
-        .tally
-        .close(&decisions, second / 3600, p.map(|p| p.clock));
-}
-
-// All beats and hours.
+// All beats. At the end of an hour, a second after its last beat, each port gets its letter.
 fn hours<W: Write, F: Write>(out: &mut W, clock: &mut Clock<F>) -> io::Result<()> {
     let mut p = None;
     for n in 0..86_400 / BEAT {
         let second = n * BEAT;
         p = beat(out, clock, second, p)?;
         if second % 3600 == 3600 - BEAT {
-            closed(clock, second, p);
+            let (decisions, _) = lead::decided(at(clock, second + 1));
+            clock
+                .tally
+                .close(&decisions, second / 3600, p.map(|p| p.clock));
         }
     }
     clock.finish()
@@ -52,11 +57,10 @@ fn hours<W: Write, F: Write>(out: &mut W, clock: &mut Clock<F>) -> io::Result<()
 
 // What the day comes to.
 fn end<W: Write, F: Write>(out: &mut W, clock: &Clock<F>) -> io::Result<()> {
-    let t = cast::instant(86_399);
-    let mut decisions = [0u8; refusal::PORTS];
-    election::decide_all(&clock.words, cast::own(), t, &mut decisions);
-    let p = lead::by_cards(&clock.words, t, cast::own());
-    board::table::told(out, &clock.words, &clock.tally, &decisions, t, p)?;
+    let now = at(clock, 86_399);
+    let (decisions, _) = lead::decided(now);
+    let p = lead::by_cards(now);
+    now.table_told(out, &clock.tally, &decisions, p)?;
     cast::exchange::told(out, &clock.tally, p.map(|p| p.clock))
 }
 
