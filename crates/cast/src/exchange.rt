@@ -93,14 +93,12 @@ fn stamps(master: u64, h: u64) -> Stamps {
     }
 }
 
-fn latencies() -> Latencies {
-    Latencies {
-        mtx: ScaledPs(MASTER_TX * LATENCY),
-        mrx: ScaledPs(MASTER_RX * LATENCY),
-        stx: ScaledPs(SLAVE_TX * LATENCY),
-        srx: ScaledPs(SLAVE_RX * LATENCY),
-    }
-}
+const LATENCIES: Latencies = Latencies {
+    mtx: ScaledPs(MASTER_TX * LATENCY),
+    mrx: ScaledPs(MASTER_RX * LATENCY),
+    stx: ScaledPs(SLAVE_TX * LATENCY),
+    srx: ScaledPs(SLAVE_RX * LATENCY),
+};
 
 // The hour's delay and offset from a master.
 fn measured(master: u64, h: u64) -> Result<(ScaledNs, Offset), Refusal> {
@@ -111,7 +109,7 @@ fn measured(master: u64, h: u64) -> Result<(ScaledNs, Offset), Refusal> {
             follow: ScaledNs(0),
             resp: ScaledNs(0),
         },
-        latencies: latencies(),
+        latencies: LATENCIES,
         asymmetry: Asymmetry(0),
     })
 }

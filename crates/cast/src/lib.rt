@@ -81,25 +81,21 @@ pub struct Clock<F> {
 }
 
 // What an Announce on our ports is judged by.
-fn settings() -> Settings {
-    Settings {
-        domain: 0,
-        clock: OURS,
-        magic: MAGIC,
-    }
-}
+const SETTINGS: Settings = Settings {
+    domain: 0,
+    clock: OURS,
+    magic: MAGIC,
+};
 
 // Our own quality: a clock that leads only where nobody better is heard.
-pub fn own() -> Grandmaster {
-    Grandmaster {
-        priority1: 128,
-        class: 248,
-        accuracy: 254,
-        variance: 65535,
-        priority2: FREE,
-        identity: OURS,
-    }
-}
+pub const OWN: Grandmaster = Grandmaster {
+    priority1: 128,
+    class: 248,
+    accuracy: 254,
+    variance: 65535,
+    priority2: FREE,
+    identity: OURS,
+};
 
 // Class, accuracy, variance and priority2 in five octets: those of a clock on satellite time, or of one that runs free.
 fn grade(priority2: u8) -> u64
@@ -317,7 +313,7 @@ impl<F: Write> Clock<F> {
         let sent = said.octets();
         let octets = &sent.as_flattened()[..said.length()];
         self.trace.record(port, said.t, octets)?;
-        let taken = ports::intake::take(&mut self.words, port, said.t, octets, settings());
+        let taken = ports::intake::take(&mut self.words, port, said.t, octets, SETTINGS);
         self.tally.note(port, taken);
         Ok(())
     }

@@ -7,13 +7,13 @@ use std::io::Write;
 // What every port is to do, and the ranked list of them all.
 pub fn decided(now: Now<'_>) -> ([u8; refusal::PORTS], Ranked) {
     let mut decisions = [0u8; refusal::PORTS];
-    let elected = election::decide_all(now.words, cast::own(), now.t, &mut decisions);
+    let elected = election::decide_all(now.words, cast::OWN, now.t, &mut decisions);
     (decisions, elected.list)
 }
 
 // The parent by a ranked list; none where our own clock leads.
 fn led_by(list: Ranked) -> Option<Parent> {
-    election::parent(cast::own(), list)
+    election::parent(cast::OWN, list)
         .unwrap_or(None)
         .map(board::sender_of)
 }
@@ -42,7 +42,7 @@ pub fn watched<W: Write>(
 ) -> io::Result<Option<Parent>> {
     let new = by_ports(now);
     if name(new) != name(old) {
-        now.change_told(out, old, new, cast::own())?;
+        now.change_told(out, old, new, cast::OWN)?;
     }
     Ok(new)
 }

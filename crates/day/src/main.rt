@@ -9,11 +9,11 @@ use std::io::{BufWriter, Write};
 
 mod lead;
 
-// A clock's ports at a second.
-fn at<F>(clock: &Clock<F>, second: u64) -> Now<'_> {
+// A clock's ports at `t`.
+fn at<F>(clock: &Clock<F>, t: u64) -> Now<'_> {
     Now {
         words: &clock.words,
-        t: cast::instant(second),
+        t,
     }
 }
 
@@ -28,13 +28,9 @@ fn beat<W: Write, F: Write>(
         rise::begun(out, p.port, p.flags, second)?;
     }
     clock.beat(second)?;
-    let new = lead::watched(out, at(clock, second), old)?;
+    let new = lead::watched(out, at(clock, cast::instant(second)), old)?;
     if let Some(port) = clock.tenants(out, second)? {
-        let now = Now {
-            words: &clock.words,
-            t: cast::flood_end(second),
-        };
-        now.meanwhile(out, port, new)?;
+        at(clock, cast::flood_end(second)).meanwhile(out, port, new)?;
     }
     Ok(new)
 }
@@ -46,7 +42,7 @@ fn hours<W: Write, F: Write>(out: &mut W, clock: &mut Clock<F>) -> io::Result<()
         let second = n * BEAT;
         p = beat(out, clock, second, p)?;
         if second % 3600 == 3600 - BEAT {
-            let (decisions, _) = lead::decided(at(clock, second + 1));
+            let (decisions, _) = lead::decided(at(clock, cast::instant(second + 1)));
             clock
                 .tally
                 .close(&decisions, second / 3600, p.map(|p| p.clock));
@@ -57,7 +53,7 @@ fn hours<W: Write, F: Write>(out: &mut W, clock: &mut Clock<F>) -> io::Result<()
 
 // What the day comes to.
 fn end<W: Write, F: Write>(out: &mut W, clock: &Clock<F>) -> io::Result<()> {
-    let now = at(clock, 86_399);
+    let now = at(clock, cast::instant(86_399));
     let (decisions, _) = lead::decided(now);
     let p = lead::by_cards(now);
     now.table_told(out, &clock.tally, &decisions, p)?;

@@ -13,25 +13,21 @@ use std::io;
 use std::io::{BufReader, BufWriter, Read, Write};
 
 // What an Announce is judged by.
-fn settings() -> Settings {
-    Settings {
-        domain: 0,
-        clock: 0,
-        magic: 0xABCD,
-    }
-}
+const SETTINGS: Settings = Settings {
+    domain: 0,
+    clock: 0,
+    magic: 0xABCD,
+};
 
 // Our own quality.
-fn own() -> Grandmaster {
-    Grandmaster {
-        priority1: 128,
-        class: 248,
-        accuracy: 254,
-        variance: 65535,
-        priority2: 128,
-        identity: 0,
-    }
-}
+const OWN: Grandmaster = Grandmaster {
+    priority1: 128,
+    class: 248,
+    accuracy: 254,
+    variance: 65535,
+    priority2: 128,
+    identity: 0,
+};
 
 // Why a trace is not replayed to its end: standard input cannot be read, or a block is refused.
 #[derive(Drop)]
@@ -83,7 +79,7 @@ fn replayed<I: Read>(
         if n == 0 {
             return Ok(());
         }
-        playback::replay_block(words, reader, &space[..n], settings())?;
+        playback::replay_block(words, reader, &space[..n], SETTINGS)?;
     }
     Ok(())
 }
@@ -91,7 +87,7 @@ fn replayed<I: Read>(
 // Each port's decision at `t`.
 fn told<W: Write>(out: &mut W, words: &[u64; ports::WORDS], t: u64) -> io::Result<()> {
     let mut decisions = [0u8; refusal::PORTS];
-    election::decide_all(words, own(), t, &mut decisions);
+    election::decide_all(words, OWN, t, &mut decisions);
     for (port, code) in (1..=18).zip(decisions) {
         writeln!(out, "{port} {}", page::decision(code))?;
     }

@@ -12,16 +12,14 @@ use tlv::form::{CALIBRATE, CALIBRATED, LOCK, MODE_ON};
 const NANOS: u64 = refusal::SECOND_NANOS as u64;
 
 // A port that may be slave and needs calibration.
-fn slave_settings() -> Settings {
-    Settings {
-        config: 2,
-        calibrate: true,
-        retry: 3,
-        period: 3000,
-        tx: 14_680_064_000,
-        rx: 15_073_280_000,
-    }
-}
+const SLAVE: Settings = Settings {
+    config: 2,
+    calibrate: true,
+    retry: 3,
+    period: 3000,
+    tx: 14_680_064_000,
+    rx: 15_073_280_000,
+};
 
 // What happens to a link on the way up to a parent, in its order. The parent's part in wrFlags: config in bits 0 and 1, its mode in bit 3.
 fn way_up(flags: u16) -> [Event; 7] {
@@ -53,7 +51,7 @@ fn brought_up(way: &[Event]) -> Option<u64> {
     let mut sent: u64 = 0;
     let mut on = false;
     for event in way {
-        let step = link::step(slave_settings(), link, *event);
+        let step = link::step(SLAVE, link, *event);
         link = step.link;
         sent = sent.saturating_add(messages(step.sends));
         on = step.report;
@@ -66,7 +64,7 @@ const FIRST: u64 = 3600;
 
 const SECOND: u64 = 14 * 3600;
 
-// The link to the parent on `port`, at those seconds: whether it was brought up.
+// At those seconds the link to the parent on `port` is brought up, and the page says whether it is on.
 pub fn begun<W: Write>(out: &mut W, port: u8, flags: u16, second: u64) -> io::Result<()> {
     if second != FIRST && second != SECOND {
         return Ok(());
