@@ -3,7 +3,8 @@ ghost use Rattle.std.specs.Prelude.{◌≡◌, ◌≤◌, take};
 ghost use Rattle.rank.specs.Calls.{ranking_of};
 
 use crate::Now;
-use rank::{Candidate, Ranked, Ranking};
+use rank::{Candidate, Ranked};
+use refusal::Refusal;
 use senders::SLOTS;
 
 // Ports on a card, and candidates that they hear at most.
@@ -19,7 +20,7 @@ struct Heard {
 }
 
 // The ranked list of the first n of a run.
-fn ranked(held: [Candidate; MOST], n: usize) -> Ranking
+fn ranked(held: [Candidate; MOST], n: usize) -> Result<Ranked, Refusal>
     requires { n ≤ 96 }
     ensures { result ≡ ranking_of (take n held) }
 {
@@ -53,14 +54,14 @@ fn run(now: Now<'_>, card: u8) -> Heard
 
 impl Now<'_> {
     // A card's ranked list.
-    pub fn list(self, card: u8) -> Ranked {
+    pub fn list(self, card: u8) -> Result<Ranked, Refusal> {
         let Heard { n, held } = run(self, card);
-        ranked(held, n).list
+        ranked(held, n)
     }
 
     // The ranked list of all cards.
-    pub fn merged(self) -> Ranked {
-        let lower = rank::merge(self.list(0), self.list(1)).list;
-        rank::merge(lower, self.list(2)).list
+    pub fn merged(self) -> Result<Ranked, Refusal> {
+        let lower = rank::merge(self.list(0)?, self.list(1)?)?;
+        rank::merge(lower, self.list(2)?)
     }
 }

@@ -2,11 +2,13 @@
 use crate::{Named, Now, Parent, cards};
 use page::Tally;
 use rank::Ranked;
+use refusal::Refusal;
 use std::io;
 use std::io::Write;
 
-// A ranked list, in its order.
-fn list_told<W: Write>(out: &mut W, list: Ranked) -> io::Result<()> {
+// A ranked list, in its order; one that is refused has nothing in it.
+fn list_told<W: Write>(out: &mut W, list: Result<Ranked, Refusal>) -> io::Result<()> {
+    let list = list.unwrap_or(rank::empty());
     if list.len == 0 {
         write!(out, "  nothing")?;
     }

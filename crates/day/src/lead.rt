@@ -1,21 +1,21 @@
 // Who the parent is: by the cards' merged lists, or by the ports' bests; and a change of it.
 use board::{Now, Parent};
 use rank::Ranked;
+use refusal::Refusal;
 use std::io;
 use std::io::Write;
 
 // What every port is to do, and the ranked list of them all.
-pub fn decided(now: Now<'_>) -> ([u8; refusal::PORTS], Ranked) {
+pub fn decided(now: Now<'_>) -> ([u8; refusal::PORTS], Result<Ranked, Refusal>) {
     let mut decisions = [0u8; refusal::PORTS];
-    let elected = election::decide_all(now.words, cast::OWN, now.t, &mut decisions);
-    (decisions, elected.list)
+    let list = election::decide_all(now.words, cast::OWN, now.t, &mut decisions);
+    (decisions, list)
 }
 
 // The parent by a ranked list; none where our own clock leads.
-fn led_by(list: Ranked) -> Option<Parent> {
-    election::parent(cast::OWN, list)
-        .unwrap_or(None)
-        .map(board::sender_of)
+fn led_by(list: Result<Ranked, Refusal>) -> Option<Parent> {
+    let leader = election::parent(cast::OWN, list.ok()?).ok()?;
+    leader.map(board::sender_of)
 }
 
 // The parent from the cards' merged lists.

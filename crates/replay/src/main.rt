@@ -87,7 +87,7 @@ fn replayed<I: Read>(
 // Each port's decision at `t`.
 fn told<W: Write>(out: &mut W, words: &[u64; ports::WORDS], t: u64) -> io::Result<()> {
     let mut decisions = [0u8; refusal::PORTS];
-    election::decide_all(words, OWN, t, &mut decisions);
+    let _ = election::decide_all(words, OWN, t, &mut decisions);
     for (port, code) in (1..=18).zip(decisions) {
         writeln!(out, "{port} {}", page::decision(code))?;
     }
