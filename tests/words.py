@@ -64,22 +64,22 @@ PACKED = [
     ("candidate_words.found_words", {"found_words": "DZ_FOUND", "c": "DZ_FOUND_CANDIDATE"}, "DZ_FOUND_WORDS"),
     ("candidate_words.ranked_words", {"r.len": "DZ_LIST_COUNT"} | {f"r.slots.{i}": f"DZ_LIST_AT({i})" for i in range(4)}, "DZ_LIST_WORDS"),
     ("candidate_words.record_words", {"record_words": "DZ_R_HELD"} | of("r", RECORD), "DZ_RECORD_WORDS"),
-    ("candidate_words.status_words", {"Known.last": "DZ_STATUS_LAST", "Known.k": "DZ_STATUS_INTERVAL"}, "DZ_STATUS_WORDS"),
+    ("candidate_words.status_words", {"Ok.last": "DZ_STATUS_LAST", "Ok.k": "DZ_STATUS_INTERVAL"}, "DZ_STATUS_WORDS"),
     ("message_words.message_words", of("m", HEADER | of("body", BODY)), "DZ_MESSAGE_WORDS"),
-    ("message_words.tail_words", {"Whole.m.body": "DZ_TAIL_AT", "size": "DZ_TAIL_LENGTH"}, "DZ_TAIL_WORDS"),
-    ("message_words.tlv_words", {"tlv_words": "DZ_FOUND", "Found.at": "DZ_FOUND_DATA_AT", "size": "DZ_FOUND_DATA_LENGTH"}, "DZ_FOUND_DATA_WORDS"),
+    ("message_words.tail_words", {"Ok.m.body": "DZ_TAIL_AT", "size": "DZ_TAIL_LENGTH"}, "DZ_TAIL_WORDS"),
+    ("message_words.tlv_words", {"Ok.x.data_words": "DZ_FOUND", "Ok.x.Some.at": "DZ_FOUND_DATA_AT", "size": "DZ_FOUND_DATA_LENGTH"}, "DZ_FOUND_DATA_WORDS"),
     ("message_words.walked_words", {
-        "walked_words": "DZ_FOUND", "Next.x.place": "DZ_TLV_AT", "Next.x.kind": "DZ_TLV_TYPE", "Next.x.length": "DZ_TLV_LENGTH",
-        "Next.x.begin_of": "DZ_TLV_DATA_AT", "Next.x.end_of": "DZ_TLV_END"}, "DZ_FOUND_TLV_WORDS"),
-    ("message_words.suffix_words", {"suffix_words": "DZ_FOUND", "Flags.n": "DZ_FOUND_WRFLAGS"}, "DZ_FOUND_WRFLAGS_WORDS"),
-    ("message_words.link_words", {"link_words": "DZ_FOUND", "Message.m": "DZ_FOUND_LINK_MESSAGE"}, "DZ_FOUND_LINK_WORDS"),
+        "Ok.x.place_words": "DZ_FOUND", "Ok.x.Some.x.place": "DZ_TLV_AT", "Ok.x.Some.x.kind": "DZ_TLV_TYPE", "Ok.x.Some.x.length": "DZ_TLV_LENGTH",
+        "Ok.x.Some.x.begin_of": "DZ_TLV_DATA_AT", "Ok.x.Some.x.end_of": "DZ_TLV_END"}, "DZ_FOUND_TLV_WORDS"),
+    ("message_words.suffix_words", {"Ok.x.flags_words": "DZ_FOUND", "Ok.x.Some.n": "DZ_FOUND_WRFLAGS"}, "DZ_FOUND_WRFLAGS_WORDS"),
+    ("message_words.link_words", {"Ok.x.carried_words": "DZ_FOUND", "Ok.x.Some.m": "DZ_FOUND_LINK_MESSAGE"}, "DZ_FOUND_LINK_WORDS"),
     ("message_words.link_message_words", {
         "link_message_words": "DZ_L_NUMBER", "Calibrate.pattern": "DZ_L_PATTERN", "Calibrate.retry": "DZ_L_RETRY", "Calibrate.period": "DZ_L_PERIOD",
         "Calibrated.tx": "DZ_L_TX", "Calibrated.rx": "DZ_L_RX"}, "DZ_LINK_MESSAGE_WORDS"),
     ("message_words.origin_words", {"stamp.6 octets": "DZ_STAMP_SECONDS", "stamp.4 octets": "DZ_STAMP_NANOS"}, "DZ_STAMP_WORDS"),
     ("link_words.step_words", of("s", STEP), "DZ_STEP_WORDS"),
-    ("exchange_words.measured_words", {"Measured.d": "DZ_D_DELAY", "Measured.o.seconds": "DZ_D_SECONDS", "Measured.o.rest": "DZ_D_REST"}, "DZ_MEASURED_WORDS"),
-    ("trace_words.next_words", of("Found.p", {
+    ("exchange_words.measured_words", {"Ok.d": "DZ_D_DELAY", "Ok.o.seconds": "DZ_D_SECONDS", "Ok.o.rest": "DZ_D_REST"}, "DZ_MEASURED_WORDS"),
+    ("trace_words.next_words", of("Some.p", {
         "place_words": "DZ_FOUND", "time": "DZ_N_TIME", "port": "DZ_N_PORT", "at": "DZ_N_AT", "length": "DZ_N_LENGTH", "end": "DZ_N_END"}), "DZ_FOUND_ENTRY_WORDS"),
     ("playback.reader_words", of("r", READER), "DZ_READER_WORDS"),
     ("capture_words.form_words", of("f", FORM), "DZ_FORM_WORDS"),
@@ -233,11 +233,11 @@ def bare(name):
 
 
 def patterns_of(tokens):
-    """Each pattern as its words: a variable, a variant, or a variant and its variables."""
+    """Each pattern as its words: a variable, a variant, or a variant and its variables, those of a pair or of a variant in it among them."""
     patterns = []
     while tokens:
-        end = tokens.index(")") if tokens[0] == "(" else 0
-        patterns.append(tokens[1:end] if end else tokens[:1])
+        end = split_at(tokens, ")", False) if tokens[0] == "(" else 0
+        patterns.append([token.rstrip(",") for token in tokens[:end + 1] if token not in "()"])
         tokens = tokens[end + 1:]
     return patterns
 

@@ -38,11 +38,11 @@ pub fn add(block: &mut [u8], at: usize, t: u64, port: u8, message: &[u8])
     stores::copy_in(block, at + HEAD, message);
 }
 
-// Writes a block closed: as it stands open, with its check.
+// Writes a block closed: as it stands open, with its check. `*out = *block` would make the library want `memmove`.
 pub fn seal(block: &[u8; OCTETS], out: &mut [u8; OCTETS])
     ensures { out.new ≡ sealed block.now }
 {
-    *out = *block;
+    stores::copy_in(out, 0, block);
     let first = octets::held::u16_at(block, 0);
     let others = crate::sums::remainder(block) + 65535 - u64::from(first);
     let check = 65535 - crate::sums::folded(others);

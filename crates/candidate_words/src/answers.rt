@@ -66,7 +66,7 @@ pub fn put_looked(out: &mut [u64; 15], l: Result<Option<Record>, Refusal>) -> u6
     words::put(out, l.map(seen_words).map_err(refusal::number))
 }
 
-// What ranking and merging give.
+// What ranking and merging give. Forty-five words are written where they go: handed to `words::put` they would be copied.
 pub fn put_ranking(out: &mut [u64; 45], x: Result<Ranked, Refusal>) -> u64
     ensures answer { result ≡ code_of (outcome_of x) }
     ensures words { out.new ≡ ranking_words x out.old }
@@ -100,17 +100,7 @@ pub fn put_leader(out: &mut [u64; 12], x: Result<Option<Candidate>, Refusal>) ->
     ensures answer { result ≡ leader_code x }
     ensures words { out.new ≡ leader_words x out.old }
 {
-    match x {
-        Err(y) => refusal::number(y),
-        Ok(None) => {
-            *out = [0; 12];
-            0
-        }
-        Ok(Some(c)) => {
-            *out = crate::candidates::found_words(c);
-            0
-        }
-    }
+    crate::candidates::put_asked(out, x)
 }
 
 // The number of a comparison's answer: 1 A better, 2 B better, 3 and 4 the same by topology, 5 error-1, 6 error-2.

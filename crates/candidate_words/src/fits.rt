@@ -67,7 +67,8 @@ pub fn best_fits(w: &[u64; 12]) -> bool
     (w[0] == 0) | fits
 }
 
-// What ranking or merging answers whose words may not fit: 18 where they do not, unless the call itself refuses.
+// What ranking or merging answers whose words may not fit: 18 where they do not, unless the call itself refuses. This and the two below
+// differ in the type alone, and stay apart as their definitions and `.._determined` theorems do.
 pub fn ranking_fitted(r: Result<Ranked, Refusal>, fits: bool) -> Result<Ranked, Refusal>
     ensures { result ≡ ranking_fitted fits r }
 {

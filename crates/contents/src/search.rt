@@ -31,7 +31,8 @@ fn is_sought(t: &[u8], at: usize, what: Sought) -> bool
     }
 }
 
-// Where the first TLV stands that the walk looks for; the end of the tail where there is none.
+// Where the first TLV stands that the walk looks for; the end of the tail where there is none. Here and below the loop stays: each step is read
+// from the tail, so there is no range to go over.
 pub fn place(t: &[u8], what: Sought) -> usize
     ensures { result ≡ first (sought_at what t.now) t.now 0 }
 {

@@ -23,12 +23,12 @@ tail_words (Ok m) size out = size_of m.body ∷ size ∷ []
 tail_words (Err x) size out = out
 
 -- 1, where the data begin in the message, and how many octets they are; zeros where there is none
-abbrev pub data_words : ℕ → Option ℕ → List ℕ
-data_words size (Some at) = 1 ∷ at ∷ size ∷ []
-data_words size None = 0 ∷ 0 ∷ 0 ∷ []
+abbrev pub data_words : Option ℕ → ℕ → List ℕ
+data_words (Some at) size = 1 ∷ at ∷ size ∷ []
+data_words None size = 0 ∷ 0 ∷ 0 ∷ []
 
 abbrev pub tlv_words : Result (Option ℕ) Refusal → ℕ → List ℕ → List ℕ
-tlv_words (Ok x) size out = data_words size x
+tlv_words (Ok x) size out = data_words x size
 tlv_words (Err x) size out = out
 
 -- 1, where the TLV stands in the message, its type, how many octets of data it has, where they begin and where it ends; zeros where there is none

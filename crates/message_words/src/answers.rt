@@ -10,7 +10,7 @@ use tlv::wr::LinkMessage;
 
 // A TLV that was looked up: 1, where its data begin in the message and how many octets they are, or zeros.
 fn data_words(found: Option<usize>, length: usize) -> [u64; 3]
-    ensures { result ≡ data_words length found }
+    ensures { result ≡ data_words found length }
 {
     match found {
         Some(at) => [1, at as u64, length as u64],
@@ -24,7 +24,7 @@ pub fn put_tlv(out: &mut [u64; 3], x: Result<Option<usize>, Refusal>, length: us
 {
     let shown = x.map(
         |found| -> [u64; 3]
-            ensures { result ≡ data_words length found }
+            ensures { result ≡ data_words found length }
         { data_words(found, length) },
     );
     words::put(out, shown.map_err(refusal::answer))

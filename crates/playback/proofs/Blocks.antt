@@ -67,6 +67,11 @@ module _ (r : Reader) (s : List ℕ) where
   unfolding verdict_of
   sound_laid q e = sound_by (fails_check s) (is_laid s) (is_next r.next s) (is_in_order r.last (entries_of s)) (reader_after r s) q e
 
+-- a verdict that is none of a sound block
+pub unsound : (v : Result Reader Flaw) → ((q : Reader) → v ≡ Ok q → ⊥) → is_sound v ≡ false
+unsound (Err x) k = refl
+unsound (Ok q) k = absurd (k q refl)
+
 -- ---- looking at all blocks
 -- what the blocks that are left give
 abbrev pub replay_by : Reader → List (List ℕ) → Result ℕ Refusal

@@ -1,4 +1,6 @@
 -- `body_of` meets its contract: each arm knows the type.
+use lib.ListN.{get_or}
+use native.Mathlib.Omega.{arith}
 use mathlib.Core.Path.{ap}
 use borrow.Author.Tests.{ne_eqb}
 use Rattle.message_words.specs.Words.{body_of}
@@ -33,5 +35,4 @@ returns-in-11 c =
 pub returns-in_default : goal.returns-in_default
 unfolding body_of
 returns-in_default c =
-    let r = c.in_default.in_default-own.rest in
-    rw (ne_eqb _ _ r.0.0.0.0.1, ne_eqb _ _ r.0.0.0.1, ne_eqb _ _ r.0.0.1, ne_eqb _ _ r.0.1, ne_eqb _ _ r.1) (ap body.Signaling c.identity_at-in_default.ensures)
+    rw (ne_eqb (get_or c.args.w.now 0 0) 0x0 (λ e. omega arith), ne_eqb (get_or c.args.w.now 0 0) 0x1 (λ e. omega arith), ne_eqb (get_or c.args.w.now 0 0) 0x8 (λ e. omega arith), ne_eqb (get_or c.args.w.now 0 0) 0x9 (λ e. omega arith), ne_eqb (get_or c.args.w.now 0 0) 0xB (λ e. omega arith)) (ap body.Signaling c.identity_at-in_default.ensures)

@@ -1,4 +1,5 @@
 -- `is_whole` meets its contract: by type, the limits tell what the definition says.
+use native.Mathlib.Omega.{arith}
 use mathlib.Core.Path.{◌≡◌, sym}
 use lib.ListN.{length}
 use Rattle.message_words.proofs.Limits.{whole_sync, whole_delay_req, whole_follow_up, whole_delay_resp, whole_announce, whole_signaling, whole_none}
@@ -31,5 +32,4 @@ returns-in-12 c =
 
 pub returns-in_default : goal.returns-in_default
 returns-in_default c =
-    let r = c.in_default.in_default-own.rest in
-    sym (whole_none c.args.w.now ((let it : length c.args.w.now ≡ 20 = search rules in it)) r.0.0.0.0.0.1 r.0.0.0.0.1 r.0.0.0.1 r.0.0.1 r.0.1 r.1)
+    sym (whole_none c.args.w.now ((let it : length c.args.w.now ≡ 20 = search rules in it)) (λ e. omega arith) (λ e. omega arith) (λ e. omega arith) (λ e. omega arith) (λ e. omega arith) (λ e. omega arith))

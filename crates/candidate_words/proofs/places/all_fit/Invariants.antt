@@ -1,6 +1,6 @@
 -- `all_fit` meets its contract. The loop's invariant: those passed fit.
 -- the candidate of a turn that goes on fits
-use Prim.Native.Nat.{ℕ, ◌≤◌, ◌<◌, ◌-◌}
+use Prim.Native.Nat.{ℕ, ◌≤◌, ◌<◌}
 use Rattle.candidate_words.specs.Places.{Fit}
 use Rattle.candidate_words.proofs.places.all_fit.Given as goal
 

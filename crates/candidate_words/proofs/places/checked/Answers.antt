@@ -1,6 +1,4 @@
 -- `checked` meets its contract. The loop's invariant: what is left of the run, and whether what came before it fits, decide.
-use mathlib.Core.Path.{refl}
-use native.Mathlib.Omega.{arith}
 use Rattle.candidate_words.proofs.RunLaws.{check_many, check_start}
 use Rattle.candidate_words.proofs.places.checked.Goals as goal
 

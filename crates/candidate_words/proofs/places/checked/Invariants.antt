@@ -1,7 +1,6 @@
 -- `checked` meets its contract. The loop's invariant: what is left of the run, and whether what came before it fits, decide.
-use Prim.Native.Nat.{◌≤◌, ◌-◌}
 use mathlib.Core.Path.{◌≡◌}
-use lib.ListN.{length, drop}
+use lib.ListN.{drop}
 use Rattle.candidate_words.specs.Places.{checked_of}
 use Rattle.candidate_words.proofs.RunLaws.{so_far}
 use Rattle.candidate_words.proofs.places.checked.Given as goal

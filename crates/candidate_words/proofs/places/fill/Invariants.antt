@@ -1,6 +1,6 @@
 -- `fill` meets its contract. The loop's invariant: inserting what is left into the list so far gives the whole.
 -- a turn inserts one candidate
-use Prim.Native.Nat.{◌≤◌, ◌-◌}
+use Prim.Native.Nat.{◌≤◌}
 use mathlib.Core.Path.{◌≡◌}
 use lib.Seq.{slice}
 use Rattle.rank.specs.Ranked.{insert_all}

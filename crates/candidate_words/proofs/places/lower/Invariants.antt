@@ -1,5 +1,5 @@
 -- `lower` meets its contract. The loop's invariant: what is left of the words decides as all of them do.
-use Prim.Native.Nat.{◌≤◌, ◌-◌}
+use Prim.Native.Nat.{◌≤◌}
 use mathlib.Core.Path.{◌≡◌}
 use lib.ListN.{drop}
 use Rattle.rank.specs.Order.{lex}

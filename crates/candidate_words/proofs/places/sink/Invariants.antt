@@ -1,5 +1,4 @@
 -- `sink` meets its contract: what is done to the places is what `rank` does to the slots of the list that they stand for.
-use Prim.Native.Nat.{◌-◌}
 use mathlib.Core.List.{map}
 use lib.ListN.{take}
 use Rattle.rank.specs.Order.{earlier_of}

@@ -1,4 +1,6 @@
 -- `reading::put_body` meets its contract: each arm knows the type, and so how many octets are there.
+use Rattle.message.specs.Fields.{type_of}
+use native.Mathlib.Omega.{arith}
 use mathlib.Core.Path.{◌∙◌}
 use borrow.Author.Tests.{ne_eqb}
 use Rattle.message.specs.Fields.{fixed_size, body_of}
@@ -43,6 +45,5 @@ returns-in-11 c =
 pub returns-in_default : goal.returns-in_default
 unfolding body_of body_words
 returns-in_default c =
-    let r = c.in_default.in_default-own.rest in
     c.put_target.ensures
-    ∙ rw (ne_eqb _ _ r.0.0.0.0.1, ne_eqb _ _ r.0.0.0.1, ne_eqb _ _ r.0.0.1, ne_eqb _ _ r.0.1, ne_eqb _ _ r.1)
+    ∙ rw (ne_eqb (type_of c.args.s.now) 0x0 (λ e. omega arith), ne_eqb (type_of c.args.s.now) 0x1 (λ e. omega arith), ne_eqb (type_of c.args.s.now) 0x8 (λ e. omega arith), ne_eqb (type_of c.args.s.now) 0x9 (λ e. omega arith), ne_eqb (type_of c.args.s.now) 0xB (λ e. omega arith))

@@ -1,4 +1,5 @@
 -- `straight::body_holds` meets its contract: type by type.
+use native.Mathlib.Omega.{arith}
 use mathlib.Core.Path.{◌∙◌, sym, ap}
 use Rattle.writer.specs.Writing.{body_fits}
 use Rattle.message_words.specs.Words.{announce_of}
@@ -28,4 +29,4 @@ returns-in-11 c =
 
 pub returns-in_default : goal.returns-in_default
 returns-in_default c =
-    let w = c.args.w.now in sym (ap body_fits (body_signaling w c.in_default.in_default-own.rest.0.0.0.0.1 c.in_default.in_default-own.rest.0.0.0.1 c.in_default.in_default-own.rest.0.0.1 c.in_default.in_default-own.rest.0.1 c.in_default.in_default-own.rest.1))
+    let w = c.args.w.now in sym (ap body_fits (body_signaling w (λ e. omega arith) (λ e. omega arith) (λ e. omega arith) (λ e. omega arith) (λ e. omega arith)))

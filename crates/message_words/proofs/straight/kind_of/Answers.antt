@@ -1,4 +1,5 @@
 -- `straight::kind_of` meets its contract: type by type.
+use native.Mathlib.Omega.{arith}
 use mathlib.Core.Path.{sym, ap}
 use Rattle.layout.specs.Layout.{kind_of}
 use Rattle.message_words.proofs.Bodies.{body_sync, body_delay_req, body_follow_up, body_delay_resp, body_announce, body_signaling}
@@ -26,4 +27,4 @@ returns-in-11 c =
 
 pub returns-in_default : goal.returns-in_default
 returns-in_default c =
-    let w = c.args.w.now in sym (ap kind_of (body_signaling w c.in_default.in_default-own.rest.0.0.0.0.1 c.in_default.in_default-own.rest.0.0.0.1 c.in_default.in_default-own.rest.0.0.1 c.in_default.in_default-own.rest.0.1 c.in_default.in_default-own.rest.1))
+    let w = c.args.w.now in sym (ap kind_of (body_signaling w (λ e. omega arith) (λ e. omega arith) (λ e. omega arith) (λ e. omega arith) (λ e. omega arith)))

@@ -93,4 +93,4 @@ returns-in-11 c =
 
 pub returns-in_default : goal.returns-in_default
 returns-in_default c =
-    let s = c.args in rw (body_signaling s.w.now c.in_default.in_default-own.rest.0.0.0.0.1 c.in_default.in_default-own.rest.0.0.0.1 c.in_default.in_default-own.rest.0.0.1 c.in_default.in_default-own.rest.0.1 c.in_default.in_default-own.rest.1, ← c.identity_at-in_default.ensures) c.put_identity-in_default.ensures
+    let s = c.args in rw (body_signaling s.w.now (λ e. omega arith) (λ e. omega arith) (λ e. omega arith) (λ e. omega arith) (λ e. omega arith), ← c.identity_at-in_default.ensures) c.put_identity-in_default.ensures

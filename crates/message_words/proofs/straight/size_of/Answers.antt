@@ -34,4 +34,4 @@ returns-in-11 c =
 pub returns-in_default : goal.returns-in_default
 unfolding fixed_size
 returns-in_default c =
-    let w = c.args.w.now in (sym (ap size_of (body_signaling w c.in_default.in_default-own.rest.0.0.0.0.1 c.in_default.in_default-own.rest.0.0.0.1 c.in_default.in_default-own.rest.0.0.1 c.in_default.in_default-own.rest.0.1 c.in_default.in_default-own.rest.1)), omega arith, omega arith)
+    let w = c.args.w.now in (sym (ap size_of (body_signaling w (λ e. omega arith) (λ e. omega arith) (λ e. omega arith) (λ e. omega arith) (λ e. omega arith))), omega arith, omega arith)

@@ -1,4 +1,6 @@
 -- `link_message_of` meets its contract: each arm knows the number.
+use lib.ListN.{get_or}
+use native.Mathlib.Omega.{arith}
 use borrow.Author.Tests.{ne_eqb}
 use Rattle.message_words.specs.Writing.{link_message_of}
 use Rattle.message_words.proofs.writing.link_message_of.Goals as goal
@@ -31,5 +33,4 @@ returns-in-4100 c =
 pub returns-in_default : goal.returns-in_default
 unfolding link_message_of
 returns-in_default c =
-    let r = c.in_default.in_default-own.rest in
-    rw (ne_eqb _ _ r.0.0.0.0.1, ne_eqb _ _ r.0.0.0.1, ne_eqb _ _ r.0.0.1, ne_eqb _ _ r.0.1, ne_eqb _ _ r.1)
+    rw (ne_eqb (get_or c.args.w.now 0 0) 0x1000 (λ e. omega arith), ne_eqb (get_or c.args.w.now 0 0) 0x1001 (λ e. omega arith), ne_eqb (get_or c.args.w.now 0 0) 0x1002 (λ e. omega arith), ne_eqb (get_or c.args.w.now 0 0) 0x1003 (λ e. omega arith), ne_eqb (get_or c.args.w.now 0 0) 0x1004 (λ e. omega arith))
