@@ -12,7 +12,7 @@ const PORTS: u8 = 6;
 
 const MOST: usize = 96;
 
-// The candidates of a card: the first n that it holds.
+// The candidates of a card: the first n that it holds. The contract of `ranked` speaks of the first n of a buffer of fixed size.
 #[derive(Clone, Copy)]
 struct Heard {
     n: usize,

@@ -103,7 +103,8 @@ pub fn put_leader(out: &mut [u64; 12], x: Result<Option<Candidate>, Refusal>) ->
     crate::candidates::put_asked(out, x)
 }
 
-// The number of a comparison's answer: 1 A better, 2 B better, 3 and 4 the same by topology, 5 error-1, 6 error-2.
+// The number of a comparison's answer: 1 A better, 2 B better, 3 and 4 the same by topology, 5 error-1, 6 error-2. They are the C interface's,
+// which counts from 1.
 pub fn comparison_number(x: Comparison) -> u64
     ensures { result ≡ comparison_number x }
 {

@@ -19,14 +19,16 @@ const PLACES: usize = 4;
 // A run holds at most so many candidates.
 const MOST: usize = 288;
 
-// The first `len` of four places in a run, in rank order of what lies there. Those past them say nothing.
+// The first `len` of four places in a run, in rank order of what lies there. Those past them say nothing. It is an array with a length beside,
+// as there is no heap and the C interface has four candidates and their count.
 #[derive(Clone, Copy)]
 pub struct Places {
     pub len: usize,
     pub at: [usize; PLACES],
 }
 
-// Whether the words of one candidate come before those of another: at the first that differs, the lower.
+// Whether the words of one candidate come before those of another: at the first that differs, the lower. By `<` of the arrays the proof stayed
+// open: the library's order of lists is another term than `lex`, by which rank order is defined.
 fn lower(a: &[u64; 11], b: &[u64; 11]) -> bool
     ensures { result ≡ lower_of a.now b.now }
 {

@@ -84,6 +84,7 @@ pub fn next_data(s: &[u8], from: usize, magic: u16) -> &[u8]
             let n = x.length as usize;
             &s[a..a + n]
         }
+        // two arms: an arm for both does not say that there is none, and `returns` stayed open
         Ok(None) => &s[..0],
         Err(_) => &s[..0],
     }

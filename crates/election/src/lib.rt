@@ -22,7 +22,7 @@ use refusal::Refusal;
 const PORTS: u8 = refusal::PORTS as u8;
 
 // The best candidates that some ports hear, by their places in the words, best first: the first `len` places. One of a port,
-// and no more than four.
+// and no more than four. It is an array with a length beside, as there is no heap.
 #[derive(Clone, Copy)]
 struct Top {
     len: usize,
@@ -135,7 +135,7 @@ pub fn elect(words: &[u64; WORDS], t: u64) -> Result<Ranked, Refusal>
     Ok(list_of(words, top))
 }
 
-// A decision's number: M1, M2, M3, S1, S2, P1, P2 are 1 to 7.
+// A decision's number: M1, M2, M3, S1, S2, P1, P2 are 1 to 7. These are the C interface's; `as u8` would put them into the order of the variants.
 pub fn code(d: Decision) -> u8
     ensures { result ≡ code_of d }
 {

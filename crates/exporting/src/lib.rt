@@ -102,7 +102,7 @@ fn put_records(out: &mut [u8], from: usize, s: &[u8]) -> usize
     to
 }
 
-// The port of a trace's first record, 0 where it has none.
+// The port of a trace's first record, 0 where it has none: the exporter's third word in the C interface, and the definition `port_of`, say it so.
 fn first_port(trace: &[u8]) -> u64
     requires { is_trace trace.now ≡ true }
     ensures { result ≡ port_of (records_of trace.now) }

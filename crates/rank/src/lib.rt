@@ -62,7 +62,8 @@ pub fn earlier(a: Candidate, b: Candidate) -> bool
     a < b
 }
 
-// A ranked list: the first `len` of the slots, or all of them where it says more. The slots past them say nothing.
+// A ranked list: the first `len` of the slots, or all of them where it says more. The slots past them say nothing. A length stands beside a buffer
+// of fixed size: there is no heap, and a list that says more than four is told from a ranked list by `is_ranked`.
 #[derive(Clone, Copy)]
 pub struct Ranked {
     pub len: usize,

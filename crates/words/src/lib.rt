@@ -22,7 +22,7 @@ pub fn word_of_i16(x: i16) -> u64
     i64::from(x).cast_unsigned()
 }
 
-// The port that a word names, 0 where it is none of 1 to 18.
+// The port that a word names, 0 where it is none of 1 to 18: C's words and the definition say it by 0, which every call refuses.
 pub fn port_of(w: u64) -> u8
     ensures { result ≡ port_of w }
 {

@@ -17,7 +17,8 @@ use tlv::wr::LinkMessage;
 
 mod digits;
 
-// A TLV: the first `size` of its octets, the rest zero. The largest, CALIBRATED, has all 28.
+// A TLV: the first `size` of its octets, the rest zero. The largest, CALIBRATED, has all 28. A size stands beside the octets, as there is no heap and
+// the definitions `suffix_tlv` and `link_tlv` name both.
 #[derive(Clone, Copy)]
 pub struct WrTlv {
     pub octets: [u8; 28],
