@@ -8,9 +8,8 @@ ghost use Rattle.message_words.specs.Reading.{head_words};
 use message::fields::{ANNOUNCE, DELAY_REQ, DELAY_RESP, FOLLOW_UP, SYNC};
 
 // The type and the header, in the first nine words.
-fn put_header(out: &mut [u64], s: &[u8])
-    requires out_len { length out.old ≡ 20 }
-    requires in_bounds { 34 ≤ length s.now }
+fn put_header(out: &mut [u64; 20], s: &[u8])
+    requires { 34 ≤ length s.now }
     ensures { out.new ≡ head_words (type_of s.now) (header_of s.now) (drop 9 out.old) }
 {
     out[0] = (s[0] % 16) as u64;
@@ -25,8 +24,7 @@ fn put_header(out: &mut [u64], s: &[u8])
 }
 
 // A body of two numbers.
-fn put_pair(out: &mut [u64], a: u64, b: u64)
-    requires { length out.old ≡ 20 }
+fn put_pair(out: &mut [u64; 20], a: u64, b: u64)
     ensures { out.new ≡ take 9 out.old ++ pair_words a b }
 {
     out[9] = a;
@@ -43,9 +41,8 @@ fn put_pair(out: &mut [u64], a: u64, b: u64)
 }
 
 // The timestamp of a Sync, a Delay_Req or a Follow_Up.
-fn put_stamp(out: &mut [u64], s: &[u8])
-    requires out_len { length out.old ≡ 20 }
-    requires in_bounds { 44 ≤ length s.now }
+fn put_stamp(out: &mut [u64; 20], s: &[u8])
+    requires { 44 ≤ length s.now }
     ensures { out.new ≡ take 9 out.old ++ pair_words (stamp_of s.now).seconds (stamp_of s.now).nanoseconds }
 {
     put_pair(
@@ -56,9 +53,8 @@ fn put_stamp(out: &mut [u64], s: &[u8])
 }
 
 // The target of a Signaling.
-fn put_target(out: &mut [u64], s: &[u8])
-    requires out_len { length out.old ≡ 20 }
-    requires in_bounds { 44 ≤ length s.now }
+fn put_target(out: &mut [u64; 20], s: &[u8])
+    requires { 44 ≤ length s.now }
     ensures { out.new ≡ take 9 out.old ++ pair_words (identity_at s.now 34).clock (identity_at s.now 34).port }
 {
     put_pair(
@@ -69,9 +65,8 @@ fn put_target(out: &mut [u64], s: &[u8])
 }
 
 // The body of a Delay_Resp: what a stamp has, and the requester.
-fn put_resp(out: &mut [u64], s: &[u8])
-    requires out_len { length out.old ≡ 20 }
-    requires in_bounds { 54 ≤ length s.now }
+fn put_resp(out: &mut [u64; 20], s: &[u8])
+    requires { 54 ≤ length s.now }
     ensures { out.new ≡ take 9 out.old ++ resp_words (record { receive = stamp_of s.now; requester = identity_at s.now 44 }) }
 {
     put_stamp(out, s);
@@ -80,9 +75,8 @@ fn put_resp(out: &mut [u64], s: &[u8])
 }
 
 // The body of an Announce.
-fn put_announce(out: &mut [u64], s: &[u8])
-    requires out_len { length out.old ≡ 20 }
-    requires in_bounds { 64 ≤ length s.now }
+fn put_announce(out: &mut [u64; 20], s: &[u8])
+    requires { 64 ≤ length s.now }
     ensures { out.new ≡ take 9 out.old ++ announce_words (announce_of s.now) }
 {
     out[9] = octets::held::u48_at(s, 34);
@@ -99,9 +93,8 @@ fn put_announce(out: &mut [u64], s: &[u8])
 }
 
 // The body by the type, behind the first nine words.
-fn put_body(out: &mut [u64], s: &[u8])
-    requires out_len { length out.old ≡ 20 }
-    requires in_bounds { (44 ≤ length s.now) × (fixed_size (type_of s.now) ≤ length s.now) }
+fn put_body(out: &mut [u64; 20], s: &[u8])
+    requires { (44 ≤ length s.now) × (fixed_size (type_of s.now) ≤ length s.now) }
     ensures { out.new ≡ take 9 out.old ++ body_words (body_of s.now) }
 {
     let kind = s[0] % 16;
@@ -121,6 +114,6 @@ pub fn put_message(out: &mut [u64; 20], s: &[u8])
     requires s_in_bounds { fixed_size (type_of s.now) ≤ length s.now }
     ensures { out.new ≡ message_words (message_of s.now) }
 {
-    put_header(&mut out[..], s);
-    put_body(&mut out[..], s);
+    put_header(out, s);
+    put_body(out, s);
 }

@@ -15,7 +15,7 @@ returns c =
     let s = c.args.s.now in
     let w = c.args.out.now in
     let y = c.word_of_i16.ensures ∙ ap (of_z w64) (to_z-of_z w16 _ (record { sfits = c.signed16.type_inv }) ∙ c.signed16.ensures ∙ ap (to_z w16) c.u16_at.ensures) in
-    eleven w c.requires.out_len _ _ _ _ _ _ _ _ _ _ _
+    eleven w c.told-out _ _ _ _ _ _ _ _ _ _ _
     ∙ (λ i.
     take 9 w
     ++ (c.u48_at.ensures i

@@ -7,15 +7,15 @@ use Rattle.message.specs.Fields.{fixed_size, body_of}
 use Rattle.message_words.specs.Words.{body_words}
 use Rattle.message_words.proofs.reading.put_body.Goals as goal
 
-pub put_resp-requires-clause-in_bounds : goal.put_resp-requires-clause-in_bounds
+pub put_resp-requires : goal.put_resp-requires
 unfolding fixed_size
-put_resp-requires-clause-in_bounds c =
-    rw c.in-9.is at c.requires.in_bounds.1
+put_resp-requires c =
+    rw c.in-9.is at c.requires.1
 
-pub put_announce-requires-clause-in_bounds : goal.put_announce-requires-clause-in_bounds
+pub put_announce-requires : goal.put_announce-requires
 unfolding fixed_size
-put_announce-requires-clause-in_bounds c =
-    rw c.in-11.is at c.requires.in_bounds.1
+put_announce-requires c =
+    rw c.in-11.is at c.requires.1
 
 pub returns-in-0 : goal.returns-in-0
 unfolding body_of body_words

@@ -19,7 +19,7 @@ returns c =
     let f : Fits w64 (be 8 s 8) = rw (← c.u64_at.ensures) (record { fits = c.u64_at.type_inv }) in
     let x = c.u64_at.ensures ∙ sym (of_z-to_z w64 (be 8 s 8) f) in
     let y = c.word_of_i8.ensures ∙ ap (of_z w64) (to_z-of_z w8 _ (record { sfits = c.signed8.type_inv }) ∙ c.signed8.ensures) in
-    nine w c.requires.out_len _ _ _ _ _ _ _ _ _
+    nine w c.told-out _ _ _ _ _ _ _ _ _
     ∙ (λ i.
     get_or s 0 0 % 16
     ∷ get_or s 0 0 / 16

@@ -8,12 +8,12 @@ use Rattle.message_words.specs.Reading.{head_words}
 use Rattle.message_words.proofs.ReadingLaws.{kind_listed}
 use Rattle.message_words.proofs.reading.put_message.Goals as goal
 
-pub put_header-requires-clause-in_bounds : goal.put_header-requires-clause-in_bounds
-put_header-requires-clause-in_bounds c =
+pub put_header-requires : goal.put_header-requires
+put_header-requires c =
     let h = size_least _ c.requires.fact in omega arith
 
-pub put_body-requires-clause-in_bounds : goal.put_body-requires-clause-in_bounds
-put_body-requires-clause-in_bounds c =
+pub put_body-requires : goal.put_body-requires
+put_body-requires c =
     let l = size_least _ c.requires.fact in
     (omega arith, c.requires.s_in_bounds)
 

@@ -4,4 +4,4 @@ use Rattle.message_words.proofs.reading.put_pair.Goals as goal
 
 pub returns : goal.returns
 returns c =
-    eleven c.args.out.now c.requires _ _ _ _ _ _ _ _ _ _ _
+    eleven c.args.out.now c.told-out _ _ _ _ _ _ _ _ _ _ _

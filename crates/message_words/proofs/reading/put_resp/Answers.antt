@@ -11,5 +11,5 @@ unfolding identity_at
 returns c =
     let w = c.args.out.now in
     rw c.put_stamp.ensures
-    (two_over w c.requires.out_len _ _ _ _ _ _ _ _ _ _ _ _ _
+    (two_over w c.told-out _ _ _ _ _ _ _ _ _ _ _ _ _
     ∙ (λ i. take 9 w ++ ((stamp_of c.args.s.now).seconds ∷ (stamp_of c.args.s.now).nanoseconds ∷ c.u64_at.ensures i ∷ c.u16_at.ensures i ∷ 0 ∷ 0 ∷ 0 ∷ 0 ∷ 0 ∷ 0 ∷ 0 ∷ [])))
