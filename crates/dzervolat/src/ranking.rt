@@ -8,8 +8,8 @@ ghost use Rattle.rank.specs.Calls.{outcome_of};
 ghost use Rattle.candidate_words.specs.Answers.{ranking_words, decided_code, decided_words, leader_code, leader_words};
 ghost use Rattle.dzervolat.specs.Ranking.{ranked_run, merged_lists, decided_fits, decided_by, elected_by, decisions_after, parent_in, sets_fit, compared_of, compared_after};
 
-use decide::Decision;
 use candidate_words::{candidates, fits};
+use decide::Decision;
 use rank::{Candidate, Ranked};
 use refusal::Refusal;
 
@@ -42,7 +42,12 @@ fn decided_fits(own: &[u64; 6], list: &[u64; 45], best: &[u64; 12]) -> bool
 }
 
 // The decision of a port, and whether the words fit.
-fn decided(own: &[u64; 6], list: &[u64; 45], port: u64, best: &[u64; 12]) -> Result<Decision, Refusal>
+fn decided(
+    own: &[u64; 6],
+    list: &[u64; 45],
+    port: u64,
+    best: &[u64; 12],
+) -> Result<Decision, Refusal>
     ensures { result ≡ decided_by own.now list.now port best.now }
 {
     let g = candidates::grandmaster_at(own, 0);

@@ -9,7 +9,6 @@ ghost use Rattle.message_words.specs.Answers.{read_code, read_words, tail_words,
 
 use refusal::Refusal;
 
-
 // A message in twenty words, and where its tail begins and how long it is.
 #[unsafe(no_mangle)]
 pub extern "C" fn dz_read(

@@ -45,7 +45,12 @@ fn is_signaling(message: &[u64; 20], link: &[u64; 6]) -> bool
 }
 
 // The Signaling of twenty words with one link message of six.
-fn write_link(out: &mut [u8], message: &[u64; 20], link: &[u64; 6], magic: u16) -> Result<usize, Refusal>
+fn write_link(
+    out: &mut [u8],
+    message: &[u64; 20],
+    link: &[u64; 6],
+    magic: u16,
+) -> Result<usize, Refusal>
     ensures answer { result ≡ link_written magic message.now link.now out.old }
     ensures buffer { out.new ≡ link_buffer magic message.now link.now out.old }
 {
