@@ -1,6 +1,6 @@
 // Candidates, ranked lists, data sets and our own quality in words, in the order of docs/VECTORS.md. Out of words a number is taken modulo the
 // width of its field; `fits` tells whether it is the number that stands there.
-ghost use Rattle.std.specs.Prelude.{◌≡◌, ◌+◌, ◌≤◌, [], length};
+ghost use Rattle.std.specs.Prelude.{◌≡◌, ◌+◌, ◌≤◌, length};
 ghost use Rattle.candidate_words.specs.Candidates.{grandmaster_at, identity_at, candidate_at, ranked_of, set_of, candidate_words, found_words, ranked_words, asked_code, asked_words, best_of};
 
 use decide::DataSet;
@@ -180,17 +180,21 @@ pub fn ranked_words(r: Ranked) -> [u64; 45]
     ]
 }
 
-// A candidate that may be there: 1 and its words, or zeros.
-fn maybe_words(c: Option<Candidate>) -> [u64; 12]
-    ensures { result ≡ asked_words (Ok c) [] }
-{
-    c.map_or([0; 12], found_words)
-}
-
-// What asking for a candidate gives: 1 and the candidate, or zeros; a refusal leaves the words.
+// What asking for a candidate gives: 1 and the candidate, or zeros; a refusal leaves the words. They are written where they go: handed to
+// `words::put`, `dz_candidate` takes 102 instructions for 74.
 pub fn put_asked(out: &mut [u64; 12], a: Result<Option<Candidate>, Refusal>) -> u64
     ensures answer { result ≡ asked_code a }
     ensures words { out.new ≡ asked_words a out.old }
 {
-    words::put(out, a.map(maybe_words).map_err(refusal::number))
+    match a {
+        Err(x) => refusal::number(x),
+        Ok(None) => {
+            *out = [0; 12];
+            0
+        }
+        Ok(Some(c)) => {
+            *out = found_words(c);
+            0
+        }
+    }
 }
