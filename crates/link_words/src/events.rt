@@ -75,7 +75,7 @@ pub fn take(words: &mut [u64; 72], port: u8, e: Event, out: &mut [u64; 18]) -> u
     ensures words { words.new ≡ take_words words.old port e }
     ensures step { out.new ≡ taken_words (take_answer words.old port e) out.old }
 {
-    let Ok(at) = links::place(port) else {
+    let Ok(at) = links::placed(port) else {
         return refusal::number(Refusal::Port);
     };
     let settings = words[at + 1];

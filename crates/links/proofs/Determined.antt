@@ -36,5 +36,8 @@ look_determined κs a x y v w p q = (p ∙ sym q, refl)
 pub place_determined : Fixes contracts.place.ended its.place.Reads.Post
 place_determined κs a x y v w p q = (p.0 ∙ sym q.0, refl)
 
+pub placed_determined : Fixes contracts.placed.ended its.placed.Reads.Post
+placed_determined κs a x y v w p q = (p.0 ∙ sym q.0, refl)
+
 pub step_determined : Fixes contracts.brief.step.ended its.brief.step.Reads.Post
 step_determined κs a x y v w p q = (p ∙ sym q, refl)

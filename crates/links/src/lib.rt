@@ -8,6 +8,7 @@ ghost use Rattle.std.specs.Prelude.{◌≡◌, ◌≤◌, not, Ok, Err, IfOk};
 ghost use Rattle.link.specs.States.{state_number, state_of};
 ghost use Rattle.links.specs.Words.{role_number, role_of, word_of, link_of, settings_word, settings_of, IsPort, base, setting_answer, setting_words, take_answer, take_words, look_answer};
 ghost use Rattle.refusal.specs.Choice.{refuse};
+ghost use Rattle.refusal.specs.Limits.{port_count};
 ghost use Rattle.refusal.specs.declared.Refusal.TheVariants.{Port};
 
 pub mod brief;
@@ -99,12 +100,20 @@ fn settings_of(w: u64, tx: u64, rx: u64) -> Settings
 }
 
 // Where a port's four words begin. They are reached by index: of words written through `as_chunks_mut` its contract says nothing.
-pub fn place(port: u8) -> Result<usize, Refusal>
+pub fn place(port: u8) -> usize
+    requires { (1 ≤ port) × (port ≤ port_count) }
+    ensures { (result ≡ base port) × (result ≤ 68) }
+{
+    4 * (usize::from(port) - 1)
+}
+
+// The same, or 8 where no port has the number.
+pub fn placed(port: u8) -> Result<usize, Refusal>
     ensures answer { result ≡ refuse (not (IsPort port)) (Err Port) (Ok (base port)) }
     ensures within { IfOk result (λ at. at ≤ 68) }
 {
     if refusal::is_port(port) {
-        Ok(4 * (usize::from(port) - 1))
+        Ok(place(port))
     } else {
         Err(Refusal::Port)
     }
@@ -115,7 +124,7 @@ pub fn set(words: &mut [u64; 72], port: u8, s: Settings) -> Result<(), Refusal>
     ensures answer { result ≡ setting_answer port s }
     ensures exit { words.new ≡ setting_words words.old port s }
 {
-    let at = place(port)?;
+    let at = placed(port)?;
     if 3 < s.config {
         return Err(Refusal::Field);
     }
@@ -130,7 +139,7 @@ pub fn take(words: &mut [u64; 72], port: u8, e: Event) -> Result<Stepped, Refusa
     ensures answer { result ≡ take_answer words.old port e }
     ensures exit { words.new ≡ take_words words.old port e }
 {
-    let at = place(port)?;
+    let at = placed(port)?;
     let s = settings_of(words[at + 1], words[at + 2], words[at + 3]);
     let r = link::step(s, link_of(words[at]), e);
     words[at] = word_of(r.link);
@@ -141,7 +150,7 @@ pub fn take(words: &mut [u64; 72], port: u8, e: Event) -> Result<Stepped, Refusa
 pub fn look(words: &[u64; 72], port: u8) -> Result<Stepped, Refusal>
     ensures { result ≡ look_answer words.now port }
 {
-    let at = place(port)?;
+    let at = placed(port)?;
     Ok(Stepped {
         link: link_of(words[at]),
         sends: Sends::Nothing,
