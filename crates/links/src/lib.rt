@@ -54,6 +54,7 @@ fn role_of(n: u64) -> Role
 }
 
 // A link in a word.
+// These four stay functions: an `impl From` for a type of `link` and a number may not stand in this crate.
 fn word_of(l: Link) -> u64
     ensures { result ≡ word_of l }
 {

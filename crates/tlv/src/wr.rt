@@ -28,5 +28,8 @@ pub fn suffix_at(t: &[u8], p: usize) -> Option<u16>
 pub fn wr_flags(x: Option<u16>) -> u16
     ensures { result ≡ wr_flags_of x }
 {
-    x.unwrap_or(0)
+    let Some(flags) = x else {
+        return 0;
+    };
+    flags
 }
