@@ -54,10 +54,10 @@ known_of w t a i r =
 abbrev pub new_of : ℕ → Notice → ℕ → Result (ℕ × Record) Refusal
 new_of t a j = refuse (not (nat_lt j 16)) (Err Full) (Ok (j, fresh_of t a))
 
--- the same by the slot, where there is one
+-- the same by the slot, where there is one; one past the sixteenth is none
 abbrev pub new_in : ℕ → Notice → Option ℕ → Result (ℕ × Record) Refusal
-new_in t a None = Err Full
-new_in t a (Some j) = Ok (j, fresh_of t a)
+new_in t a None = new_of t a 16
+new_in t a (Some j) = new_of t a j
 
 abbrev pub sender_plan : ℕ → ℕ → Notice → List Record → ℕ → Result (ℕ × Record) Refusal
 sender_plan w t a l i = pick (nat_lt i 16) (known_of w t a i (slice_index_or l i empty_slot)) (new_of t a (first (is_free w t) l))

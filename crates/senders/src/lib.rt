@@ -144,12 +144,15 @@ pub fn known(r: Record, i: usize, w: u64, t: u64, a: Notice) -> Result<(usize, R
     Ok((i, next(r, a, t)))
 }
 
-// What an Announce of a new sender does, where `j` is the lowest free slot, if there is one.
+// What an Announce of a new sender does, where `j` is the lowest free slot, if there is one; one past the sixteenth is none.
+#[tactic(auto, unfolding(refusal::specs::Choice::refuse))]
 pub fn unknown(j: Option<usize>, t: u64, a: Notice) -> Result<(usize, Record), Refusal>
     ensures { result ≡ new_in t a j }
 {
-    let j = j.ok_or(Refusal::Full)?;
-    Ok((j, fresh(a, t)))
+    match j {
+        Some(j) if j < SLOTS => Ok((j, fresh(a, t))),
+        _ => Err(Refusal::Full),
+    }
 }
 
 // The candidate that a record is on a port.

@@ -65,9 +65,7 @@ pub new_is : (ws : List ℕ) (w t : ℕ) (a : Notice) (o : Option ℕ) → o ≡
     → new_in t a o ≡ new_of t a (first (is_free w t) (slots_of ws))
 unfolding refuse
 new_is ws w t a None e = let f = none_is (is_free w t) ws (sym e) in ap (new_of t a) f
-new_is ws w t a (Some j) e =
-    let k = lowest_is (is_free w t) ws j (sym e) in
-    rw (lt-ltb j 16 k.0) at (ap (new_of t a) k.1)
+new_is ws w t a (Some j) e = ap (new_of t a) (lowest_is (is_free w t) ws j (sym e)).1
 
 -- ---- asking
 module _ (p : Port) (t : ℕ) (x : Result (Option Candidate) Refusal) where
