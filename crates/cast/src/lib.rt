@@ -403,8 +403,8 @@ impl<F: Write> Clock<F> {
         }
     }
 
-    // The trace's last block, at the end of the day.
-    pub fn finish(&mut self) -> io::Result<()> {
+    // The trace's last block, at the end of the day, and its file.
+    pub fn finish(&mut self) -> io::Result<Option<F>> {
         self.trace.finish()
     }
 }

@@ -54,12 +54,12 @@ impl<F: Write> Trace<F> {
         Ok(())
     }
 
-    // The last block, at the end of the day.
-    pub fn finish(&mut self) -> io::Result<()> {
+    // The last block, at the end of the day. The file comes back, so that whoever called closes it.
+    pub fn finish(&mut self) -> io::Result<Option<F>> {
         let mut closed = [0u8; block::OCTETS];
         if recording::finish(&self.opened, &self.words, &mut closed) {
             self.write(&closed)?;
         }
-        Ok(())
+        Ok(self.file.take())
     }
 }

@@ -35,8 +35,8 @@ fn beat<W: Write, F: Write>(
     Ok(new)
 }
 
-// All beats. At the end of an hour, a second after its last beat, each port gets its letter.
-fn hours<W: Write, F: Write>(out: &mut W, clock: &mut Clock<F>) -> io::Result<()> {
+// All beats. At the end of an hour, a second after its last beat, each port gets its letter. The trace's file comes back.
+fn hours<W: Write, F: Write>(out: &mut W, clock: &mut Clock<F>) -> io::Result<Option<F>> {
     let mut p = None;
     for n in 0..86_400 / BEAT {
         let second = n * BEAT;
@@ -64,7 +64,8 @@ fn main(rt: HostRuntime) -> io::Result<()> {
     let mut out = BufWriter::new(rt.alloc(), io::writer(&rt))?;
     let mut clock = Clock::new(cast::tape::file(&rt));
     page::heading(&mut out)?;
-    hours(&mut out, &mut clock)?;
+    // closed before the page is written: whoever reads both may read the trace to its end first
+    drop(hours(&mut out, &mut clock)?);
     clock.tally.told(&mut out)?;
     end(&mut out, &clock)?;
     out.flush()
