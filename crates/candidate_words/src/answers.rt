@@ -3,7 +3,7 @@
 ghost use Rattle.std.specs.Prelude.{◌≡◌, []};
 ghost use Rattle.refusal.specs.Refusal.{code_of};
 ghost use Rattle.rank.specs.Calls.{outcome_of};
-ghost use Rattle.candidate_words.specs.Answers.{status_code, status_words, record_words, seen_words, looked_code, looked_words, decided_code, decided_words, leader_code, leader_words, comparison_number, ranking_words};
+ghost use Rattle.candidate_words.specs.Answers.{status_code, status_words, record_words, looked_code, looked_words, decided_code, decided_words, leader_code, leader_words, comparison_number, ranking_words};
 
 use decide::{Comparison, Decision};
 use rank::{Candidate, Ranked};
@@ -51,19 +51,23 @@ fn record_words(r: Record) -> [u64; 15]
     ]
 }
 
-// What a slot holds, zeros where it never held a record.
-fn seen_words(s: Option<Record>) -> [u64; 15]
-    ensures { result ≡ seen_words s }
-{
-    s.map_or([0; 15], record_words)
-}
-
-// What looking into a slot gives.
+// What looking into a slot gives: a record, or zeros where it never held one. They are written where they go: handed to `words::put` they would be
+// copied, and `dz_record` of an empty slot takes 58 instructions for 26.
 pub fn put_looked(out: &mut [u64; 15], l: Result<Option<Record>, Refusal>) -> u64
     ensures answer { result ≡ looked_code l }
     ensures words { out.new ≡ looked_words l out.old }
 {
-    words::put(out, l.map(seen_words).map_err(refusal::number))
+    match l {
+        Err(x) => refusal::number(x),
+        Ok(None) => {
+            *out = [0; 15];
+            0
+        }
+        Ok(Some(r)) => {
+            *out = record_words(r);
+            0
+        }
+    }
 }
 
 // What ranking and merging give. Forty-five words are written where they go: handed to `words::put` they would be copied.
