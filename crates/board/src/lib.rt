@@ -6,10 +6,10 @@
 use rank::Candidate;
 use std::fmt;
 
-mod cards;
-mod change;
-mod kept;
-mod table;
+pub mod cards;
+pub mod change;
+pub mod kept;
+pub mod table;
 
 // The clock's ports at a time: everything that the day tells of them is asked of this.
 #[derive(Clone, Copy)]

@@ -4,8 +4,8 @@
 // can say what is printed, so its functions have none: they are proved to end and to stay in bounds, and what they print is
 // compared with a stored page.
 mod names;
-mod strips;
-mod tally;
+pub mod strips;
+pub mod tally;
 mod text;
 
 pub use names::{Refused, decision};
