@@ -52,7 +52,7 @@ fn record_words(r: Record) -> [u64; 15]
 }
 
 // What looking into a slot gives: a record, or zeros where it never held one. They are written where they go: handed to `words::put` they would be
-// copied, and `dz_record` of an empty slot takes 58 instructions for 26.
+// copied, and `dz_record` of an empty slot takes 58 instructions for 27.
 pub fn put_looked(out: &mut [u64; 15], l: Result<Option<Record>, Refusal>) -> u64
     ensures answer { result ≡ looked_code l }
     ensures words { out.new ≡ looked_words l out.old }
