@@ -14,6 +14,8 @@ use tape::Trace;
 
 pub mod exchange;
 pub mod tape;
+#[cfg(test)]
+mod tests;
 
 // Our own clock.
 pub const OURS: u64 = 0x00c0_ffee_0000_0001;
@@ -403,8 +405,13 @@ impl<F: Write> Clock<F> {
         }
     }
 
-    // The trace's last block, at the end of the day, and its file.
-    pub fn finish(&mut self) -> io::Result<Option<F>> {
+    // The trace's last block, at the end of the day.
+    pub fn finish(&mut self) -> io::Result<()> {
         self.trace.finish()
+    }
+
+    // The same, and the trace's file comes back.
+    pub fn release(&mut self) -> io::Result<Option<F>> {
+        self.trace.release()
     }
 }

@@ -54,12 +54,18 @@ impl<F: Write> Trace<F> {
         Ok(())
     }
 
-    // The last block, at the end of the day. The file comes back, so that whoever called closes it.
-    pub fn finish(&mut self) -> io::Result<Option<F>> {
+    // The last block, at the end of the day. The file stays here, so that whoever calls need not know how to close it.
+    pub fn finish(&mut self) -> io::Result<()> {
         let mut closed = [0u8; block::OCTETS];
         if recording::finish(&self.opened, &self.words, &mut closed) {
             self.write(&closed)?;
         }
+        Ok(())
+    }
+
+    // The same, and the file comes back, so that whoever called closes it.
+    pub fn release(&mut self) -> io::Result<Option<F>> {
+        self.finish()?;
         Ok(self.file.take())
     }
 }

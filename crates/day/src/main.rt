@@ -48,7 +48,7 @@ fn hours<W: Write, F: Write>(out: &mut W, clock: &mut Clock<F>) -> io::Result<Op
                 .close(&decisions, second / 3600, p.map(|p| p.clock));
         }
     }
-    clock.finish()
+    clock.release()
 }
 
 // What the day comes to.
